@@ -8,7 +8,7 @@ libraries() {
   sed -n 's/^\(pl_[a-z_]*\).*:.*/\1/p' crates.txt | while read -r crate; do
     case $crate in
       # Tests, measures, the program and an example: nothing is built on them.
-      *_tests | *_bench | pl_checks | pl_main | pl_example_handlers) ;;
+      *_tests | *_bench | pl_checks | pl_main | pl_trace | pl_trace_main | pl_example_handlers) ;;
       *) echo "$crate" ;;
     esac
   done

@@ -1,11 +1,11 @@
 #!/usr/bin/env bash
-# A word of the contracts has one home: says which words two modules of the libraries' specs define, but for those below, and
+# A name of the contracts has one home: says which names two modules of the libraries' specs define, but for those below, and
 # which of these have one home again. And docs/ARCHITECTURE.md names each library, and each module of these; what it names is
 # a file.
 set -euo pipefail
 cd "$(dirname "$0")/.."
 
-# The words that have two homes, each with why.
+# The names that have two homes, each with why.
 shared() {
   cat <<'LIST'
 IsSeat        each word shared between threads has seats, a rule and what sits there, as its own module tells
@@ -14,7 +14,7 @@ Sits          as IsSeat
 Looked        a look changes nothing, whichever word it is at
 ReadSeatView  a reader's seat of a mark, and of what is settled
 new_reader    the same, as it is made
-SamePlace     a context and a tail stay where they are
+SameNode      a context and a tail stay where they are
 counted       what a context took is counted as what a tail took is
 kind_taken    as counted
 taken_of      as counted; and of all channels together
@@ -24,10 +24,10 @@ LIST
 }
 
 libraries() {
-  grep -v '^#' crates.txt | sed -n 's/^\([a-z_]*\).*/\1/p' | grep -Ev '(_tests|_bench)$|^pl_(checks|main|example_handlers)$'
+  grep -v '^#' crates.txt | sed -n 's/^\([a-z_]*\).*/\1/p' | grep -Ev '(_tests|_bench)$|^pl_(checks|main|trace_main|example_handlers)$'
 }
 
-# Words, and the modules that define each.
+# Names, and the modules that define each.
 homes() {
   libraries |
     while read -r crate; do
@@ -49,7 +49,7 @@ while read -r word _; do
 done < <(shared)
 
 # The modules of each library, as docs/ARCHITECTURE.md has them: the crate, and one of its modules.
-told=$(awk '/^## Where each part is/ { here = 1 } /^## Words/ { here = 0 } !here { next }
+told=$(awk '/^## Where each part is/ { here = 1 } /^## Glossary/ { here = 0 } !here { next }
     /^- / { crate = match($0, /^- \[pl_[a-z_]+\]/) ? substr($0, 4, RLENGTH - 4) : "" }
     /^$/ { crate = "" }
     crate { line = $0; while (match(line, /`[a-z_]+`/)) { name = substr(line, RSTART + 1, RLENGTH - 2); line = substr(line, RSTART + RLENGTH)

@@ -1,6 +1,6 @@
 -- A report of two ends keeps to the plan where these hold.
 use Rattle.std.proofs.Common.{◌≡◌, ℕ, Bool, true, false, List, [], ◌++◌, length, take, Option, Some, None, refl, sym, ap, subst, ◌∙◌, arith, length-append, append-nil}
-use Rattle.std.proofs.lemmas.List.{take_all}
+use Rattle.std.proofs.lemmas.List.{nil_from_length, take_all}
 use Rattle.std.proofs.lemmas.Bool.{both_ways}
 use Rattle.pl_event.specs.declared.events.Event.{Event}
 use Rattle.pl_event.specs.declared.outcomes.Cause.{Cause}
@@ -27,7 +27,7 @@ use Rattle.pl_world.proofs.PlannedReports.{out-prefix, drained_parts, ends_keep_
 use Rattle.pl_channel.specs.Lanes.{world_of}
 use Rattle.pl_channel.specs.Ends.{ends_of, EndsHold}
 use Rattle.pl_channel.specs.PlanStand.{HeadKeepsPlan}
-use Rattle.pl_channel.proofs.HeadLanes.{comes-to, first-of}
+use Rattle.pl_channel.proofs.HeadLanes.{all-in-order, comes-to, first-of}
 use Rattle.pl_channel.proofs.LaneContents.{content-planned}
 
 ended-is : (s : Standing) → has_ended s ≡ true → s ≡ standing.Ended
@@ -67,18 +67,22 @@ module _ {T : Type 0} (state : T → TransportState) (refuses : Bool) (plan : Pl
   to-tail : held.tail_holds.events ≡ tail_of p
   to-tail = comes-to refuses plan number held.tail_holds.events (tail_of p) tail.channel tail.hop (tail_hop p) held.tail_holds.holds.own held.tail_channel held.tail_at (content-planned plan number p held.planned (tail_hop p) (omega arith))
 
+  -- the tail has handed over none of its record
+  all-kept : (xs : List Event) → held.tail_holds.holds.gone ++ tail.events ≡ xs → tail.events ≡ xs
+  all-kept xs e = ap (λ (gone : List Event). gone ++ tail.events) (sym (nil_from_length held.tail_holds.holds.gone (held.tail_holds.holds.handed ∙ held.handed))) ∙ e
+
   tail-first : IsPrefixOf tail.events (tail_of p)
   tail-first = subst (λ (xs : List Event). IsPrefixOf tail.events xs) to-tail (by tail.standing refl)
     where
       by : (s : Standing) → tail.standing ≡ s → IsPrefixOf tail.events held.tail_holds.events
-      by standing.Open is = first-of tail.taken tail.events held.tail_holds.events (held.tail_holds.holds.taken is).1
-      by standing.Ended is = ([], append-nil tail.events ∙ held.tail_holds.holds.ended is)
+      by standing.Open is = first-of tail.taken tail.events held.tail_holds.events (all-kept (take tail.taken held.tail_holds.events) (held.tail_holds.holds.taken is).1)
+      by standing.Ended is = ([], append-nil tail.events ∙ all-kept held.tail_holds.events (held.tail_holds.holds.ended is))
       by (standing.Failed cause) is =
           let some = held.tail_holds.holds.failed (ap has_failed is) in
-          first-of some.0 tail.events held.tail_holds.events some.2
+          first-of some.0 tail.events held.tail_holds.events (all-kept (take some.0 held.tail_holds.events) some.2)
 
   tail-whole : has_ended tail.standing ≡ true → tail.events ≡ tail_of p
-  tail-whole ended = held.tail_holds.holds.ended (ended-is tail.standing ended) ∙ to-tail
+  tail-whole ended = all-kept held.tail_holds.events (held.tail_holds.holds.ended (ended-is tail.standing ended)) ∙ to-tail
 
   to-head : held.head_holds.events ≡ head_of p
   to-head = comes-to refuses plan number held.head_holds.events (head_of p) head.channel head.hop (planned_head_hop p) held.head_holds.holds.own held.head_channel held.head_at (content-planned plan number p held.planned (planned_head_hop p) (omega arith))
@@ -91,10 +95,10 @@ module _ {T : Type 0} (state : T → TransportState) (refuses : Bool) (plan : Pl
 
   -- the head took the first events of it, with none left out
   head-first : IsPrefixOf (took.ys ++ took.zs) (head_of p)
-  head-first = subst (λ (xs : List Event). IsPrefixOf (took.ys ++ took.zs) xs) to-head (first-of took.count (took.ys ++ took.zs) held.head_holds.events took.in_order)
+  head-first = subst (λ (xs : List Event). IsPrefixOf (took.ys ++ took.zs) xs) to-head (first-of took.count (took.ys ++ took.zs) held.head_holds.events (all-in-order state held.head_holds.events head took (ap (λ (x : ℕ × Bool). x.1) held.gone)))
 
   head-whole : has_ended head.standing ≡ true → took.ys ++ took.zs ≡ head_of p
-  head-whole ended = took.in_order ∙ take_all took.count held.head_holds.events (omega (arith, took.ended (ended-is head.standing ended))) ∙ to-head
+  head-whole ended = all-in-order state held.head_holds.events head took (ap (λ (x : ℕ × Bool). x.1) held.gone) ∙ take_all took.count held.head_holds.events (omega (arith, took.ended (ended-is head.standing ended))) ∙ to-head
 
   output : (left : List ℕ) × (accepted ++ left ≡ out took.ys)
   output = by head.failure took.after

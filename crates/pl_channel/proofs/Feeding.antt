@@ -12,7 +12,7 @@ use Rattle.pl_event.specs.Meaning.{Meaning, IsPrefixOf}
 use Rattle.pl_event.specs.Worlds.{World, content_of}
 use Rattle.pl_event.proofs.LaneLemmas.{lane-prefix}
 use Rattle.pl_event.proofs.Lists.{All-at}
-use Rattle.pl_context.specs.declared.standing.Standing.TheVariants as stands
+use Rattle.pl_context.specs.declared.standing.Standing.TheVariants as standings
 use Rattle.pl_context.specs.ContextViews.{ContextView, IsHop}
 use Rattle.pl_head.specs.InputStand.{items_left}
 use Rattle.pl_head.specs.HeadStand.{HeadView}
@@ -118,7 +118,7 @@ module _ {S T : Type 0} (meaning : S → Meaning) (stands_after : S → List Eve
             (content p' (tail_hop p + 1 + i), placed (tail_hop p + 1 + i) (content p' (tail_hop p + 1 + i)) same (outbound-lanes p' rule.upwards rule.turn rule.downwards may.small world' number knows i (meaning c.stage) m))
       ]
 
-  not-ended : stands.Open ≡ stands.Ended → ⊥
+  not-ended : standings.Open ≡ standings.Ended → ⊥
   not-ended e = cc
 
   pub fed-holds : PartHolds world' meaning stands_after state (fed_part burst part)

@@ -4,12 +4,12 @@ pub mod Wholes
 pub mod OneChannel
 pub mod HeadMoves
 pub mod Vecs
-pub mod PlacedParts
+pub mod WholeParts
 pub mod LanePlaces
 pub mod PlaceTables
 mod LaneCounts
 mod CountedParts
-mod PlacedChannels
+mod WholeChannels
 mod Lists
 mod Contents
 mod PlannedLanes

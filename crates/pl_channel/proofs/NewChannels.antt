@@ -17,7 +17,7 @@ use Rattle.pl_part.specs.HeadHolds.{head_writes, head_came, head_taken}
 use Rattle.pl_part.specs.NewParts.{AreNewSlots}
 use Rattle.pl_part.specs.Parts.{ChannelPartView, head_hop}
 use Rattle.pl_part.specs.Paths.{context_at, writer_hop, path_taken, path_writes, path_came}
-use Rattle.pl_channel.specs.Placing.{IsAtStart}
+use Rattle.pl_channel.specs.WholeParts.{IsAtStart}
 
 tail-taken : (number k : ℕ) (l : Lane) → tail_taken_of (new_tail number k) l ≡ 0
 tail-taken number k l = by (same_hop l (record { channel = number; kind = l.kind; hop = k }))

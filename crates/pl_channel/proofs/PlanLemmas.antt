@@ -13,7 +13,7 @@ use Rattle.pl_event.specs.declared.outcomes.Cause.TheVariants.{Memory, Transport
 use Rattle.pl_event.specs.Meaning.{Meaning}
 use Rattle.pl_event.proofs.Lists.{some-of}
 use Rattle.pl_context.specs.declared.standing.Standing.{Standing}
-use Rattle.pl_context.specs.declared.standing.Standing.TheVariants as stands
+use Rattle.pl_context.specs.declared.standing.Standing.TheVariants as standings
 use Rattle.pl_context.specs.ContextViews.{ContextView}
 use Rattle.pl_context.specs.declared.standing.Took.{Took}
 use Rattle.pl_context.specs.Standings.{is_over}
@@ -68,7 +68,7 @@ module _ (c : Cause) (f f' : Option Cause) (is : FailsFor c f f') where
     calls-stay : (p : ChannelPlan) (calls accepted : ℕ) → CallsKeepToPlan p f calls accepted → CallsKeepToPlan p f' calls accepted
     calls-stay p calls accepted k = record {
       failed = λ e. k.failed (failed-before Transport no-transport e);
-      told = λ at told some small. subst (λ (n : ℕ). calls - n < at) (sym same-calls) (k.told at told some small);
+      fails_there = λ at told some small. subst (λ (n : ℕ). calls - n < at) (sym same-calls) (k.fails_there at told some small);
       most = subst (λ (n : ℕ). accepted ≤ most_by (flushed_writes (head_of p)) (calls - n)) (sym same-calls) k.most;
       window = λ w is. subst (λ (n : ℕ). accepted ≡ accepted_by w (flushed_writes (head_of p)) (calls - n)) (sym same-calls) (k.window w is);
     }
@@ -80,10 +80,10 @@ and-with false b e = refl
 -- ---- a head
 
 module _ {T : Type 0} (state : T → TransportState) (p : ChannelPlan) where
-  is-open : (s : Standing) (closed : Bool) → (is_over s || closed) ≡ false → s ≡ stands.Open
-  is-open stands.Open closed o = refl
-  is-open stands.Ended closed o = cc
-  is-open (stands.Failed c) closed o = cc
+  is-open : (s : Standing) (closed : Bool) → (is_over s || closed) ≡ false → s ≡ standings.Open
+  is-open standings.Open closed o = refl
+  is-open standings.Ended closed o = cc
+  is-open (standings.Failed c) closed o = cc
 
   -- Its transport and its marks are those of another head, and it may have failed for this cause now.
   keeps : (c : Cause) (h h' : HeadView T) → h'.transport ≡ h.transport → h'.buffer.low ≡ h.buffer.low → h'.buffer.high ≡ h.buffer.high → FailsFor c h.failure h'.failure
@@ -273,12 +273,12 @@ module _ {T : Type 0} (state : T → TransportState) (p : ChannelPlan) where
           one-more writes
           (record {
             failed = λ e. absurd (no-some Transport (sym now ∙ e));
-            told = λ at told some small.
-                let fewer = k.called.told at told some small in
+            fails_there = λ at told some small.
+                let fewer = k.called.fails_there at told some small in
                 ⊎_elim
                 (λ (e : suc k.calls ≡ at).
                 let same : at ≡ one_call_more (state h.transport).calls = let count = k.counted in omega (arith, e, small, count) in
-                absurd (w.told n is (k.fail_at ∙ told ∙ ap (λ (m : ℕ). Some m) same)))
+                absurd (w.fails_there n is (k.fail_at ∙ told ∙ ap (λ (m : ℕ). Some m) same)))
                 (λ (other : suc k.calls ≢ at). omega (arith, fewer, before, after, other))
                 (cases_eq (suc k.calls) at);
             most = accepts-most n is none now;
@@ -345,7 +345,7 @@ module _ {T : Type 0} (state : T → TransportState) (p : ChannelPlan) where
           one-more writes
           (record {
             failed = λ e. omega arith;
-            told = λ at told some small. subst (λ (m : ℕ). m < at) same (k.called.told at told some small);
+            fails_there = λ at told some small. subst (λ (m : ℕ). m < at) same (k.called.fails_there at told some small);
             most =
                 let most = k.called.most in
                 let kept : length (state h'.transport).accepted ≡ length (state h.transport).accepted = ap (λ (l : List ℕ). length l) (w.kept is) in
@@ -379,6 +379,8 @@ module _ {S T : Type 0} (meaning : S → Meaning) (stands_after : S → List Eve
     tail_at = same.path.tail_hop ∙ k.tail_at;
     head_at = sym (length-map part'.path.contexts (λ (slot : Option (ContextView S)). is_some slot)) ∙ ap length same.path.contexts ∙ length-map part.path.contexts (λ (slot : Option (ContextView S)). is_some slot) ∙ k.head_at;
     head = head;
+    handed = same.path.handed ∙ k.handed;
+    gone = same.gone ∙ k.gone;
   }
 
   -- the head of the part before, where there is one after

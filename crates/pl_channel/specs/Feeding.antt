@@ -2,7 +2,7 @@
 use Rattle.std.specs.Prelude.{◌≡◌, ℕ, zero, suc, true, List, [], ◌∷◌, ◌++◌, map, get_or, slice_get, Option, Some, None}
 use Rattle.pl_event.specs.declared.elements.Element.{Element}
 use Rattle.pl_event.specs.Meaning.{Meaning}
-use Rattle.pl_context.specs.declared.standing.Standing.TheVariants as stands
+use Rattle.pl_context.specs.declared.standing.Standing.TheVariants as standings
 use Rattle.pl_context.specs.ContextViews.{ContextView}
 use Rattle.pl_head.specs.HeadStand.{HeadView}
 use Rattle.pl_head.specs.InputStand.{takes_bursts}
@@ -41,5 +41,5 @@ pub record CanBeFed {S T : Type 0} (meaning : S → Meaning) (plan : Plan) (numb
   pub channel : part.path.channel ≡ number
   pub tail_at : part.path.tail_hop ≡ tail_hop p
   pub meant : MeansPlan meaning p part
-  pub is_open : part_standing part ≡ stands.Open
+  pub is_open : part_standing part ≡ standings.Open
   pub reads : (h : HeadView T) → part.head ≡ Some h → takes_bursts h.input ≡ true

@@ -1,5 +1,5 @@
 pub mod Lanes
-pub mod Placing
+pub mod WholeParts
 pub mod Channels
 pub mod Ways
 pub mod Ends

@@ -4,7 +4,8 @@ use Rattle.pl_event.specs.declared.outcomes.Cause.TheVariants.{Aborted, Refused}
 use Rattle.pl_head.specs.ReadSteps.{plan_steps}
 use Rattle.pl_head.specs.Transports.{TransportState}
 use Rattle.pl_head.specs.HeadStand.{HeadView, ReadsStand}
-use Rattle.pl_part.specs.Parts.{ChannelPartView, head_hop}
+use Rattle.pl_part.specs.Paths.{path_handed_over}
+use Rattle.pl_part.specs.Parts.{ChannelPartView, head_hop, part_gone}
 use Rattle.pl_world.specs.Plans.{ChannelPlan, Plan, read_plan, tail_hop}
 use Rattle.pl_world.specs.Plans.{planned_head_hop}
 use Rattle.pl_world.specs.Reports.{CallsKeepToPlan, failed_calls}
@@ -29,12 +30,14 @@ module _ {T : Type 0} (state : T → TransportState) where
     pub closed : is_some p.abort_after ≡ true → h.input.port.is_open ≡ false → is_some h.failure ≡ true
     pub unrefused : h.failure ≢ Some Refused
 
-  -- The nodes of a channel stand at the hops of its plan.
+  -- The nodes of a channel stand at the hops of its plan. They have handed over and forgotten nothing.
   pub record PartKeepsPlan {S : Type 0} (p : ChannelPlan) (part : ChannelPartView S T) : Type 0 where
     pub executors : part.path.executors ≡ p.executors
     pub tail_at : part.path.tail_hop ≡ tail_hop p
     pub head_at : head_hop part ≡ planned_head_hop p
     pub head : (h : HeadView T) → part.head ≡ Some h → HeadKeepsPlan p h
+    pub handed : path_handed_over part.path ≡ 0
+    pub gone : part_gone part ≡ (0, false)
 
   -- so do those of all channels
   pub record PartsKeepPlan {S : Type 0} (plan : Plan) (parts : List (ChannelPartView S T)) : Type 0 where

@@ -58,13 +58,13 @@ fn count_lane(table: &mut Vec<Vec<u16>>, origin: usize, target: usize)
     }
 }
 
-/// One more at a place of a row, if the row has it.
-fn count_in(row: &mut Vec<u16>, place: usize)
-    requires { get_or row.old.items place 0 + 1 < 2 ^ 16 }
-    ensures { row.new.items ≡ set row.old.items place (get_or row.old.items place 0 + 1) }
+/// One more at an index of a row, if the row has it.
+fn count_in(row: &mut Vec<u16>, index: usize)
+    requires { get_or row.old.items index 0 + 1 < 2 ^ 16 }
+    ensures { row.new.items ≡ set row.old.items index (get_or row.old.items index 0 + 1) }
 {
-    if place < row.len() {
-        row[place] += 1;
+    if index < row.len() {
+        row[index] += 1;
     }
 }
 

@@ -3,9 +3,9 @@
 #![tactic(auto)]
 
 mod lane_counts;
-mod placing;
+mod recorded_parts;
 mod reports;
 
 pub use lane_counts::{lane_count, places_between};
-pub use placing::{place, placed};
-pub use reports::{into_report, report, stands};
+pub use recorded_parts::{whole_part, whole_parts};
+pub use reports::{into_report, report, standing};

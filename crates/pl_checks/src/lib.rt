@@ -1,5 +1,5 @@
 //! Tests of the whole way, from session text to report text: the worked sessions, by their names, and the program on
-//! any words and streams.
+//! any arguments and streams.
 #![tactic(auto)]
 
 #[cfg(test)]

@@ -19,7 +19,7 @@ use Rattle.pl_event.specs.Changes.{changed_up, changed_down}
 use Rattle.pl_event.specs.Meaning.{Meaning, up_of, down_of, made-push, turned_after}
 use Rattle.pl_context.specs.declared.ports.Port.{Port}
 use Rattle.pl_context.specs.declared.standing.Standing.{Standing}
-use Rattle.pl_context.specs.declared.standing.Standing.TheVariants as stands
+use Rattle.pl_context.specs.declared.standing.Standing.TheVariants as standings
 use Rattle.pl_context.specs.declared.standing.Took.{Took}
 use Rattle.pl_context.specs.declared.standing.Took.TheVariants as took
 use Rattle.pl_context.specs.Standings.{has_failed}
@@ -47,12 +47,12 @@ pub closed-port : (standing : Standing) (p q : Port) (i : Item) → i ≡ last_i
 closed-port standing p q i is e = ap (λ (t : Port). t.is_open) e ∙ ap (λ (k : Item). p.is_open && all_go_on (k ∷ [])) is ∙ by standing p.is_open
   where
     by : (s : Standing) (o : Bool) → (o && all_go_on (last_item s ∷ [])) ≡ false
-    by stands.Open true = refl
-    by stands.Open false = refl
-    by stands.Ended true = refl
-    by stands.Ended false = refl
-    by (stands.Failed cause) true = refl
-    by (stands.Failed cause) false = refl
+    by standings.Open true = refl
+    by standings.Open false = refl
+    by standings.Ended true = refl
+    by standings.Ended false = refl
+    by (standings.Failed cause) true = refl
+    by (standings.Failed cause) false = refl
 
 -- ---- a step: events up, events down, and the end where the stage has quit
 
@@ -290,39 +290,39 @@ module _ {S : Type 0} (meaning : S → Meaning) (stands_after : S → List Event
   -- the numbers of an item that it changed, in a context v, which is seen as w
   pub small-up : (v w : ContextView S) → v ≡ w → (stage' : S) (i j : Item) (made : List Event)
       → ChangesItem meaning stands_after v.stage i Up stage' j made
-      → v.standing ≡ stands.Open → (w.standing ≡ stands.Open → MakesFew meaning stands_after w i)
+      → v.standing ≡ standings.Open → (w.standing ≡ standings.Open → MakesFew meaning stands_after w i)
       → (v.up.is_open ≡ true → v.up.made + 1 ≤ MAX_ITEMS) × (v.down.is_open ≡ true → v.down.made + length made ≤ MAX_ITEMS)
   small-up v w same stage' i j made h opened few =
-      let few' = subst (λ (c : ContextView S). c.standing ≡ stands.Open → MakesFew meaning stands_after c i) (sym same) few opened in
+      let few' = subst (λ (c : ContextView S). c.standing ≡ standings.Open → MakesFew meaning stands_after c i) (sym same) few opened in
       small-changed v.stage stage' v.up v.down h.0 h.1 Up made h.4 (subst (λ (k : Item). MakesFew meaning stands_after v k) h.2 few')
 
   pub small-down : (v w : ContextView S) → v ≡ w → (stage' : S) (i j : Item) (made : List Event)
       → ChangesItem meaning stands_after v.stage i Down stage' j made → made ≡ []
-      → v.standing ≡ stands.Open → (w.standing ≡ stands.Open → MakesFew meaning stands_after w i)
+      → v.standing ≡ standings.Open → (w.standing ≡ standings.Open → MakesFew meaning stands_after w i)
       → v.down.is_open ≡ true → v.down.made + 1 ≤ MAX_ITEMS
   small-down v w same stage' i j made h none opened few =
       let one = subst (λ (ys : List Event). ChangesOne meaning stands_after v.stage h.0 Down stage' h.1 ys) none h.4 in
-      let few' = subst (λ (c : ContextView S). c.standing ≡ stands.Open → MakesFew meaning stands_after c i) (sym same) few opened in
+      let few' = subst (λ (c : ContextView S). c.standing ≡ standings.Open → MakesFew meaning stands_after c i) (sym same) few opened in
       (small-changed v.stage stage' v.up v.down h.0 h.1 Down [] one (subst (λ (k : Item). MakesFew meaning stands_after v k) h.2 few')).1
 
   -- the same where nothing has changed
   pub few-unchanged : (v w : ContextView S) → v ≡ w → (stage : S) (i j : Item) → stage ≡ v.stage → j ≡ i
-      → (w.standing ≡ stands.Open → MakesFew meaning stands_after w i)
-      → v.standing ≡ stands.Open → MakesFew meaning stands_after (record (counted Data v) { stage = stage }) j
+      → (w.standing ≡ standings.Open → MakesFew meaning stands_after w i)
+      → v.standing ≡ standings.Open → MakesFew meaning stands_after (record (counted Data v) { stage = stage }) j
   few-unchanged v w same stage i j e f few opened =
-      let few' = subst (λ (c : ContextView S). c.standing ≡ stands.Open → MakesFew meaning stands_after c i) (sym same) few opened in
+      let few' = subst (λ (c : ContextView S). c.standing ≡ standings.Open → MakesFew meaning stands_after c i) (sym same) few opened in
       subst (λ (s : S). MakesFew meaning stands_after (record (counted Data v) { stage = s }) j) (sym e) (subst (λ (k : Item). MakesFew meaning stands_after (counted Data v) k) (sym f) few')
 
 pub counted-same : {S : Type 0} (v w : ContextView S) → v ≡ w → (stage : S) → stage ≡ v.stage → record (counted Data v) { stage = stage } ≡ counted Data w
 counted-same {S = S} v w same stage e = ap (λ (s : S). record (counted Data v) { stage = s }) e ∙ ap (λ (c : ContextView S). counted Data c) same
 
 -- a context that stands open has neither ended nor failed
-pub open-ended : {S : Type 0} (v w : ContextView S) → v ≡ w → v.standing ≡ stands.Open → w.standing ≡ stands.Ended → ⊥
+pub open-ended : {S : Type 0} (v w : ContextView S) → v ≡ w → v.standing ≡ standings.Open → w.standing ≡ standings.Ended → ⊥
 open-ended {S = S} v w same is_open ended =
-    let clash : stands.Open ≡ stands.Ended = sym is_open ∙ ap (λ (c : ContextView S). c.standing) same ∙ ended in
+    let clash : standings.Open ≡ standings.Ended = sym is_open ∙ ap (λ (c : ContextView S). c.standing) same ∙ ended in
     cc
 
-pub open-failed : {S : Type 0} (v w : ContextView S) → v ≡ w → v.standing ≡ stands.Open → has_failed w.standing ≡ true → ⊥
+pub open-failed : {S : Type 0} (v w : ContextView S) → v ≡ w → v.standing ≡ standings.Open → has_failed w.standing ≡ true → ⊥
 open-failed {S = S} v w same is_open failed =
     let clash : false ≡ true = ap has_failed (sym is_open ∙ ap (λ (c : ContextView S). c.standing) same) ∙ failed in
     cc
@@ -382,11 +382,11 @@ module _ {S : Type 0} (meaning : S → Meaning) (stands_after : S → List Event
       → mid.items ≡ before.items → mid.stopped ≡ before.stopped → before.room ≤ mid.room
       → before.room < length (offers v.up v.down (j ∷ []) (as_items below))
       → answer ≡ took.Failed Memory
-      → GivesLast (stands.Failed Memory) (record (counted Data v) { stage = stage; up = up; down = down }) mid c' after
+      → GivesLast (standings.Failed Memory) (record (counted Data v) { stage = stage; up = up; down = down }) mid c' after
       → TakesItem meaning stands_after is_spent (counted Data w) i before answer c' after
   takes-fault v w seen i j made below before mid after stage up down c' answer h all e f items_kept stopped_kept grows less is closes =
       let c = counted Data v in
-      let full = stands.Failed Memory in
+      let full = standings.Failed Memory in
       let stage_is : c'.stage ≡ stage = ap (λ (k : ContextView S). k.stage) closes.context in
       let given = item.Fail Memory ∷ [] in
       let less' : before.room < length (offers c.up c.down (item.Event h.1 ∷ []) (as_items made)) =

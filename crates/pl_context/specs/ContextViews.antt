@@ -1,4 +1,4 @@
--- What contracts see of a context: a stage at its place in a channel, what it has taken, and its ports.
+-- What contracts see of a context: a stage at its hop of a channel, what it has taken, and its ports.
 use Rattle.std.specs.Prelude.{◌≡◌, ℕ, ◌+◌, ◌<◌, ◌≤◌, ◌^◌, List, [], ◌∷◌, ◌++◌, Bool, true, false, if◌then◌else◌}
 use Rattle.pl_event.specs.declared.events.Event.{Event}
 use Rattle.pl_event.specs.declared.envelopes.Kind.{Kind}
@@ -10,10 +10,10 @@ use Rattle.pl_event.specs.Hops.{same_hop}
 use Rattle.pl_context.specs.declared.contexts.TheConstants.{MAX_HANDLERS}
 use Rattle.pl_context.specs.declared.ports.Port.{Port}
 use Rattle.pl_context.specs.declared.standing.Standing.{Standing}
-use Rattle.pl_context.specs.declared.standing.Standing.TheVariants as stands
+use Rattle.pl_context.specs.declared.standing.Standing.TheVariants as standings
 use Rattle.pl_event.specs.declared.limits.TheConstants.{MAX_ITEMS}
 
--- A stage at its place (ChannelHandlerContext). taken counts the items of its data lane, flags_taken those of its
+-- A stage at its hop (ChannelHandlerContext). taken counts the items of its data lane, flags_taken those of its
 -- flags lane.
 pub record ContextView (S : Type 0) : Type 0 where
   pub stage : S
@@ -56,7 +56,7 @@ abbrev pub new_port : ℕ → Kind → ℕ → Bool → Port
 new_port channel kind hop is_open =
     record { lane = record { channel = channel; kind = kind; hop = hop }; made = 0; is_open = is_open }
 
--- a stage at its place that has taken nothing
+-- a stage at its hop that has taken nothing
 abbrev pub new_context : {S : Type 0} → Direction → ℕ → ℕ → ℕ → S → ContextView S
 new_context direction channel hop k stage = record {
   stage = stage;
@@ -64,7 +64,7 @@ new_context direction channel hop k stage = record {
   hop = hop;
   taken = 0;
   flags_taken = 0;
-  standing = stands.Open;
+  standing = standings.Open;
   failed_by_call = false;
   up = new_port channel Data (hop + 1) (has_up direction);
   down = new_port channel Data (down_hop direction hop k) (has_down direction);
@@ -99,8 +99,8 @@ lane_of p = if p.is_open then p.lane ∷ [] else []
 abbrev pub open_lanes : {S : Type 0} → ContextView S → List Lane
 open_lanes c = lane_of c.up ++ lane_of c.down ++ lane_of c.flags
 
--- a context at the same place has taken as many items
-pub record SamePlace {S : Type 0} (c c' : ContextView S) : Type 0 where
+-- the same node, a context, has taken as many items
+pub record SameNode {S : Type 0} (c c' : ContextView S) : Type 0 where
   pub channel : c'.channel ≡ c.channel
   pub hop : c'.hop ≡ c.hop
   pub taken : c'.taken ≡ c.taken

@@ -12,7 +12,7 @@ use Rattle.pl_event.specs.Meaning.{Meaning, up_of, down_of, turned_after}
 use Rattle.pl_event.specs.Changes.{changed_up, changed_down}
 use Rattle.pl_context.specs.declared.ports.Port.{Port}
 use Rattle.pl_context.specs.declared.standing.Standing.{Standing}
-use Rattle.pl_context.specs.declared.standing.Standing.TheVariants as stands
+use Rattle.pl_context.specs.declared.standing.Standing.TheVariants as standings
 use Rattle.pl_context.specs.declared.standing.Took.{Took}
 use Rattle.pl_context.specs.declared.standing.Took.TheVariants as took
 use Rattle.pl_context.specs.OutputsViews.{OutputsView, PutsAll, Appends}
@@ -29,9 +29,9 @@ downs m xs x = as_items (m.down xs x) ++ end_after (turned_after m (xs ++ x ∷ 
 
 -- the last item of the lanes of a context that comes to stand so
 abbrev pub last_item : Standing → Item
-last_item stands.Open = item.End
-last_item stands.Ended = item.End
-last_item (stands.Failed cause) = item.Fail cause
+last_item standings.Open = item.End
+last_item standings.Ended = item.End
+last_item (standings.Failed cause) = item.Fail cause
 
 -- what both lanes are offered, the lane upwards first
 abbrev pub offers : Port → Port → List Item → List Item → List Envelope
@@ -95,7 +95,7 @@ pub record GivesLast {S : Type 0} (standing : Standing) (c : ContextView S) (bef
 module _ {S : Type 0} (meaning : S → Meaning) (stands_after : S → List Event → Type 0) (is_spent : S → Bool) where
   -- An event failed its context, out of memory: the stage met a fault, or there was not room for what it makes.
   pub record RunsOut (c : ContextView S) (x : Event) (before : OutputsView) (c' : ContextView S) (after : OutputsView) : Type 0 where
-    pub closes : GivesLast (stands.Failed Memory) (record c { stage = c'.stage }) before c' after
+    pub closes : GivesLast (standings.Failed Memory) (record c { stage = c'.stage }) before c' after
     pub why : is_spent c'.stage ≡ false → (xs : List Event) → stands_after c.stage xs →
         before.room < length (offers c.up c.down (ups (meaning c.stage) xs x) (downs (meaning c.stage) xs x))
 
@@ -110,8 +110,8 @@ module _ {S : Type 0} (meaning : S → Meaning) (stands_after : S → List Event
   -- nothing comes of it.)
   abbrev pub TakesItem : ContextView S → Item → OutputsView → Took → ContextView S → OutputsView → Type 0
   TakesItem c (item.Event x) before answer c' after = TakesEvent c x before answer c' after
-  TakesItem c item.End before answer c' after = (answer ≡ took.Ended) × GivesLast stands.Ended c before c' after
-  TakesItem c (item.Fail cause) before answer c' after = (answer ≡ took.Failed cause) × GivesLast (stands.Failed cause) c before c' after
+  TakesItem c item.End before answer c' after = (answer ≡ took.Ended) × GivesLast standings.Ended c before c' after
+  TakesItem c (item.Fail cause) before answer c' after = (answer ≡ took.Failed cause) × GivesLast (standings.Failed cause) c before c' after
   TakesItem c (item.Flag value) before answer c' after = (answer ≡ took.Ran) × (c' ≡ c) × (after ≡ before)
 
 -- the numbers that an item makes are small

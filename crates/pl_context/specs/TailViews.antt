@@ -9,7 +9,7 @@ use Rattle.pl_event.specs.declared.envelopes.Item.{Item}
 use Rattle.pl_event.specs.declared.envelopes.Item.TheVariants as item
 use Rattle.pl_event.specs.Hops.{same_hop}
 use Rattle.pl_context.specs.declared.standing.Standing.{Standing}
-use Rattle.pl_context.specs.declared.standing.Standing.TheVariants as stands
+use Rattle.pl_context.specs.declared.standing.Standing.TheVariants as standings
 use Rattle.pl_context.specs.declared.standing.Took.{Took}
 use Rattle.pl_context.specs.declared.standing.Took.TheVariants as took
 use Rattle.pl_event.specs.declared.limits.TheConstants.{MAX_ITEMS}
@@ -36,7 +36,7 @@ new_tail channel k = record {
   hop = k;
   taken = 0;
   flags_taken = 0;
-  standing = stands.Open;
+  standing = standings.Open;
   handed = 0;
   events = [];
   flags = [];
@@ -68,15 +68,15 @@ counted Flags t = record t { flags_taken = t.flags_taken + 1 }
 -- An open tail records an event wherever there is room, and else fails where memory runs out.
 abbrev pub RecordsEvent : TailView → Event → Took → TailView → Type 0
 RecordsEvent t x took.Ran t' = (t' ≡ record t { events = t.events ++ x ∷ []; room = t'.room }) × (t.room ≤ t'.room + 1)
-RecordsEvent t x (took.Failed cause) t' = (cause ≡ Memory) × (t.room ≡ 0) × (t' ≡ record t { standing = stands.Failed Memory; room = t'.room })
+RecordsEvent t x (took.Failed cause) t' = (cause ≡ Memory) × (t.room ≡ 0) × (t' ≡ record t { standing = standings.Failed Memory; room = t'.room })
 RecordsEvent t x took.Ended t' = ⊥
 RecordsEvent t x took.Dropped t' = ⊥
 
 -- What an open tail does with a data item. (A flag does not stand on its data lane, and nothing comes of it.)
 abbrev pub RecordsItem : TailView → Item → Took → TailView → Type 0
 RecordsItem t (item.Event x) answer t' = RecordsEvent t x answer t'
-RecordsItem t item.End answer t' = (answer ≡ took.Ended) × (t' ≡ record t { standing = stands.Ended })
-RecordsItem t (item.Fail cause) answer t' = (answer ≡ took.Failed cause) × (t' ≡ record t { standing = stands.Failed cause })
+RecordsItem t item.End answer t' = (answer ≡ took.Ended) × (t' ≡ record t { standing = standings.Ended })
+RecordsItem t (item.Fail cause) answer t' = (answer ≡ took.Failed cause) × (t' ≡ record t { standing = standings.Failed cause })
 RecordsItem t (item.Flag value) answer t' = (answer ≡ took.Ran) × (t' ≡ t)
 
 -- One flag more is recorded.
@@ -105,8 +105,8 @@ RecordsFlagItem t (item.Fail cause) t' = t' ≡ t
 abbrev pub handed_over : TailView → TailView
 handed_over t = record t { handed = t.handed + length t.events; events = []; room = 0 }
 
--- a tail at the same place has taken as many items
-pub record SamePlace (t t' : TailView) : Type 0 where
+-- the same node, a tail, has taken as many items
+pub record SameNode (t t' : TailView) : Type 0 where
   pub channel : t'.channel ≡ t.channel
   pub hop : t'.hop ≡ t.hop
   pub taken : t'.taken ≡ t.taken

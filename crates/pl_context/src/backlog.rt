@@ -67,11 +67,11 @@ impl<A> Backlog<A> {
         self.entries.front()
     }
 
-    /// The envelope at a position, counted from the oldest, with its token: None past the last.
-    pub fn get(&self, place: usize) -> Option<&(Envelope, A)>
-        ensures { option_copied result ≡ slice_get self.now.items place }
+    /// The envelope at an index, counted from the oldest, with its token: None past the last.
+    pub fn get(&self, index: usize) -> Option<&(Envelope, A)>
+        ensures { option_copied result ≡ slice_get self.now.items index }
     {
-        self.entries.get(place)
+        self.entries.get(index)
     }
 
     /// Whether a lane has stopped: memory ran out for an item of it, and what it brings later is discarded.
@@ -129,32 +129,32 @@ impl<A> Backlog<A> {
         !self.stops.has_any() && self.entries.capacity() - self.entries.len() > self.stops.left()
     }
 
-    /// Takes out the envelope at a position, counted from the oldest: None past the last. It takes no memory.
-    pub fn take_at(&mut self, place: usize) -> Option<(Envelope, A)>
-        ensures at { IfSome result (λ entry. slice_get self.old.items place ≡ Some entry) }
-        ensures taken { OnSome result (self.new.items ≡ remove self.old.items place) }
-        ensures gap { IfSome result (λ entry. self.old.items ≡ insert self.new.items place entry) }
-        ensures place { OnSome result (place ≤ length self.new.items) }
+    /// Takes out the envelope at an index, counted from the oldest: None past the last. It takes no memory.
+    pub fn take_at(&mut self, index: usize) -> Option<(Envelope, A)>
+        ensures at { IfSome result (λ entry. slice_get self.old.items index ≡ Some entry) }
+        ensures taken { OnSome result (self.new.items ≡ remove self.old.items index) }
+        ensures gap { IfSome result (λ entry. self.old.items ≡ insert self.new.items index entry) }
+        ensures index { OnSome result (index ≤ length self.new.items) }
         ensures room { OnSome result (self.old.room < self.new.room) }
-        ensures none { IfNone result ((length self.old.items ≤ place) × (self.new ≡ self.old)) }
+        ensures none { IfNone result ((length self.old.items ≤ index) × (self.new ≡ self.old)) }
         ensures stopped { self.new.stopped ≡ self.old.stopped }
     {
         // The oldest leaves without a move of the others.
-        if place == 0 {
+        if index == 0 {
             return self.entries.pop_front();
         }
-        self.entries.remove(place)
+        self.entries.remove(index)
     }
 
-    /// Puts an envelope back at the position from which `take_at` took it. It takes no memory.
-    pub fn put_back(&mut self, place: usize, envelope: Envelope, token: A)
-        requires place { place ≤ length self.old.items }
+    /// Puts an envelope back at the index from which `take_at` took it. It takes no memory.
+    pub fn put_back(&mut self, index: usize, envelope: Envelope, token: A)
+        requires index { index ≤ length self.old.items }
         requires room { 0 < self.old.room }
-        ensures items { self.new.items ≡ insert self.old.items place (envelope, token) }
+        ensures items { self.new.items ≡ insert self.old.items index (envelope, token) }
         ensures stopped { self.new.stopped ≡ self.old.stopped }
         ensures less_room { self.old.room ≤ self.new.room + 1 }
     {
-        if let Err(refused) = self.entries.insert(place, (envelope, token)) {
+        if let Err(refused) = self.entries.insert(index, (envelope, token)) {
             // There is room for it, so this does not come.
             self.entries.push_back_reserved(refused.value);
         }

@@ -8,12 +8,12 @@ ghost use Rattle.pl_event.specs.declared.envelopes.Item.TheVariants as items;
 ghost use Rattle.pl_event.specs.declared.outcomes.Cause.TheVariants.{Memory};
 ghost use Rattle.pl_event.specs.declared.stages.Changed.TheVariants.{No, Down};
 ghost use Rattle.pl_event.specs.Fitting.{goes_on};
-ghost use Rattle.pl_context.specs.declared.standing.Standing.TheVariants as stands;
+ghost use Rattle.pl_context.specs.declared.standing.Standing.TheVariants as standings;
 ghost use Rattle.pl_context.specs.declared.standing.Took.TheVariants as took;
 ghost use Rattle.pl_context.specs.Stops.{HasPlaces, any_stopped};
 ghost use Rattle.pl_context.specs.OutputsViews.{Appends};
 ghost use Rattle.pl_context.specs.Ports.{end_after, as_items, port_after, put_out};
-ghost use Rattle.pl_context.specs.ContextViews.{IsHop, SamePlace, new_context, has_up, has_down, down_hop, Enters, kind_taken, one_of, taken_of, number_limit, open_lanes};
+ghost use Rattle.pl_context.specs.ContextViews.{IsHop, SameNode, new_context, has_up, has_down, down_hop, Enters, kind_taken, one_of, taken_of, number_limit, open_lanes};
 ghost use Rattle.pl_context.specs.Standings.{is_over, has_failed};
 ghost use Rattle.pl_context.specs.Contexts.{StandsAfter, MakesFew, ChangesItem, Runs, GivesLast, TakesEvent, TakesItem, TakesFlag, counted, offers, ups, downs, last_item, IsSmall};
 ghost use Rattle.pl_event.specs.declared.limits.TheConstants.{MAX_ITEMS};
@@ -97,20 +97,20 @@ impl<S: Stage> Context<S> {
         requires enters { Enters self.old envelope.lane }
         requires number { envelope.number ≡ kind_taken self.old envelope.lane.kind }
         requires limit { envelope.number < number_limit envelope.lane.kind }
-        requires few { envelope.lane.kind ≡ kind.Data → self.old.standing ≡ stands.Open → MakesFew S.meaning S.stands_after self.old envelope.item }
+        requires few { envelope.lane.kind ≡ kind.Data → self.old.standing ≡ standings.Open → MakesFew S.meaning S.stands_after self.old envelope.item }
         requires places { HasPlaces outputs.old.stopped (open_lanes self.old) }
         ensures meaning { S.meaning self.new.stage ≡ S.meaning self.old.stage }
-        ensures place { (self.new.channel ≡ self.old.channel) × (self.new.hop ≡ self.old.hop) }
+        ensures same_node { (self.new.channel ≡ self.old.channel) × (self.new.hop ≡ self.old.hop) }
         ensures taken { (k : Kind) → kind_taken self.new k ≡ kind_taken self.old k + one_of k envelope.lane.kind }
 
         // One that is open puts out what its stage makes of the item.
-        ensures open { envelope.lane.kind ≡ kind.Data → self.old.standing ≡ stands.Open →
+        ensures open { envelope.lane.kind ≡ kind.Data → self.old.standing ≡ standings.Open →
             TakesItem S.meaning S.stands_after S.is_spent (counted kind.Data self.old) envelope.item outputs.old result self.new outputs.new }
-        ensures spent { envelope.lane.kind ≡ kind.Data → self.old.standing ≡ stands.Open → S.is_spent self.old.stage ≡ true →
+        ensures spent { envelope.lane.kind ≡ kind.Data → self.old.standing ≡ standings.Open → S.is_spent self.old.stage ≡ true →
             (event : Event) → envelope.item ≡ items.Event event → result ≡ took.Failed Memory }
 
         // One that has ended hands flags on, and nothing else.
-        ensures ended { envelope.lane.kind ≡ kind.Data → self.old.standing ≡ stands.Ended →
+        ensures ended { envelope.lane.kind ≡ kind.Data → self.old.standing ≡ standings.Ended →
             (result ≡ took.Ran) × (self.new ≡ counted kind.Data self.old) × (outputs.new ≡ outputs.old) }
         ensures flags { envelope.lane.kind ≡ kind.Flags → has_failed self.old.standing ≡ false →
             TakesFlag (counted kind.Flags self.old) envelope.item outputs.old result self.new outputs.new }
@@ -128,7 +128,7 @@ impl<S: Stage> Context<S> {
     /// Fails an open context: each open lane is given the failure. One that has ended or failed is unchanged.
     pub fn fail(&mut self, cause: Cause, outputs: &mut Outputs)
         requires places { HasPlaces outputs.old.stopped (open_lanes self.old) }
-        ensures open { self.old.standing ≡ stands.Open → GivesLast (stands.Failed cause) (record self.old { failed_by_call = true }) outputs.old self.new outputs.new }
+        ensures open { self.old.standing ≡ standings.Open → GivesLast (standings.Failed cause) (record self.old { failed_by_call = true }) outputs.old self.new outputs.new }
         ensures over { is_over self.old.standing ≡ true → (self.new ≡ self.old) × (outputs.new ≡ outputs.old) }
     {
         if let Standing::Open = self.standing {
@@ -193,13 +193,13 @@ impl<S: Stage> Context<S> {
     /// Takes an envelope of the data lane. Where its stage changes the event in its place, the envelope goes on.
     fn take_data(&mut self, mut envelope: Envelope, outputs: &mut Outputs) -> Took
         requires limit { self.old.taken < MAX_ITEMS }
-        requires few { self.old.standing ≡ stands.Open → MakesFew S.meaning S.stands_after self.old envelope.item }
+        requires few { self.old.standing ≡ standings.Open → MakesFew S.meaning S.stands_after self.old envelope.item }
         requires places { HasPlaces outputs.old.stopped (open_lanes self.old) }
         ensures meaning { S.meaning self.new.stage ≡ S.meaning self.old.stage }
-        ensures place { SamePlace (counted kind.Data self.old) self.new }
-        ensures open { self.old.standing ≡ stands.Open → TakesItem S.meaning S.stands_after S.is_spent (counted kind.Data self.old) envelope.item outputs.old result self.new outputs.new }
-        ensures spent { self.old.standing ≡ stands.Open → S.is_spent self.old.stage ≡ true → (event : Event) → envelope.item ≡ items.Event event → result ≡ took.Failed Memory }
-        ensures ended { self.old.standing ≡ stands.Ended → (result ≡ took.Ran) × (self.new ≡ counted kind.Data self.old) × (outputs.new ≡ outputs.old) }
+        ensures same_node { SameNode (counted kind.Data self.old) self.new }
+        ensures open { self.old.standing ≡ standings.Open → TakesItem S.meaning S.stands_after S.is_spent (counted kind.Data self.old) envelope.item outputs.old result self.new outputs.new }
+        ensures spent { self.old.standing ≡ standings.Open → S.is_spent self.old.stage ≡ true → (event : Event) → envelope.item ≡ items.Event event → result ≡ took.Failed Memory }
+        ensures ended { self.old.standing ≡ standings.Ended → (result ≡ took.Ran) × (self.new ≡ counted kind.Data self.old) × (outputs.new ≡ outputs.old) }
         ensures dropped { has_failed self.old.standing ≡ true → (result ≡ took.Dropped) × (self.new ≡ counted kind.Data self.old) × (outputs.new ≡ outputs.old) }
     {
         self.taken += 1;
@@ -239,13 +239,13 @@ impl<S: Stage> Context<S> {
     /// Takes an item of the data lane, which is counted. What takes an item apart is kept out of what hands envelopes on whole.
     #[inline(never)]
     fn take_item(&mut self, envelope: Envelope, outputs: &mut Outputs) -> Took
-        requires few { self.old.standing ≡ stands.Open → MakesFew S.meaning S.stands_after self.old envelope.item }
+        requires few { self.old.standing ≡ standings.Open → MakesFew S.meaning S.stands_after self.old envelope.item }
         requires places { HasPlaces outputs.old.stopped (open_lanes self.old) }
         ensures meaning { S.meaning self.new.stage ≡ S.meaning self.old.stage }
-        ensures place { SamePlace self.old self.new }
-        ensures open { self.old.standing ≡ stands.Open → TakesItem S.meaning S.stands_after S.is_spent self.old envelope.item outputs.old result self.new outputs.new }
-        ensures spent { self.old.standing ≡ stands.Open → S.is_spent self.old.stage ≡ true → (event : Event) → envelope.item ≡ items.Event event → result ≡ took.Failed Memory }
-        ensures ended { self.old.standing ≡ stands.Ended → (result ≡ took.Ran) × (self.new ≡ self.old) × (outputs.new ≡ outputs.old) }
+        ensures same_node { SameNode self.old self.new }
+        ensures open { self.old.standing ≡ standings.Open → TakesItem S.meaning S.stands_after S.is_spent self.old envelope.item outputs.old result self.new outputs.new }
+        ensures spent { self.old.standing ≡ standings.Open → S.is_spent self.old.stage ≡ true → (event : Event) → envelope.item ≡ items.Event event → result ≡ took.Failed Memory }
+        ensures ended { self.old.standing ≡ standings.Ended → (result ≡ took.Ran) × (self.new ≡ self.old) × (outputs.new ≡ outputs.old) }
         ensures dropped { has_failed self.old.standing ≡ true → (result ≡ took.Dropped) × (self.new ≡ self.old) × (outputs.new ≡ outputs.old) }
     {
         let Envelope { item, .. } = envelope;
@@ -289,7 +289,7 @@ impl<S: Stage> Context<S> {
         requires few { MakesFew S.meaning S.stands_after self.old item }
         requires places { HasPlaces outputs.old.stopped (open_lanes self.old) }
         ensures meaning { S.meaning self.new.stage ≡ S.meaning self.old.stage }
-        ensures place { SamePlace self.old self.new }
+        ensures same_node { SameNode self.old self.new }
         ensures takes { TakesItem S.meaning S.stands_after S.is_spent self.old item outputs.old result self.new outputs.new }
         ensures spent { S.is_spent self.old.stage ≡ true → (event : Event) → item ≡ items.Event event → result ≡ took.Failed Memory }
     {
@@ -312,7 +312,7 @@ impl<S: Stage> Context<S> {
         requires few { (xs : List Event) × IsSmall S.meaning S.stands_after self.old.stage self.old.up self.old.down xs event }
         requires places { HasPlaces outputs.old.stopped (open_lanes self.old) }
         ensures meaning { S.meaning self.new.stage ≡ S.meaning self.old.stage }
-        ensures place { SamePlace self.old self.new }
+        ensures same_node { SameNode self.old self.new }
         ensures takes { TakesEvent S.meaning S.stands_after S.is_spent self.old event outputs.old result self.new outputs.new }
         ensures spent { S.is_spent self.old.stage ≡ true → result ≡ took.Failed Memory }
     {
@@ -355,7 +355,7 @@ impl<S: Stage> Context<S> {
     fn run_out(&mut self, outputs: &mut Outputs) -> Took
         requires { HasPlaces outputs.old.stopped (open_lanes self.old) }
         ensures failed { result ≡ took.Failed Memory }
-        ensures closes { GivesLast (stands.Failed Memory) self.old outputs.old self.new outputs.new }
+        ensures closes { GivesLast (standings.Failed Memory) self.old outputs.old self.new outputs.new }
     {
         self.close(Standing::Failed(Cause::Memory), outputs);
         Took::Failed(Cause::Memory)
@@ -384,7 +384,7 @@ fn change<S: Stage>(
 ) -> Changed
     ensures meaning { S.meaning stage.new ≡ S.meaning stage.old }
     ensures no { result ≡ No → (stage.new ≡ stage.old) × (item.new ≡ item.old) × (below.new.items ≡ below.old.items) }
-    ensures ready { result ≢ No → (standing ≡ stands.Open) × (0 < outputs.now.room) × (any_stopped outputs.now.stopped ≡ false) }
+    ensures ready { result ≢ No → (standing ≡ standings.Open) × (0 < outputs.now.room) × (any_stopped outputs.now.stopped ≡ false) }
     ensures changes { result ≢ No → (made : List Event) × (below.new.items ≡ below.old.items ++ made)
         × ChangesItem S.meaning S.stands_after stage.old item.old result stage.new item.new made }
     ensures alone { result ≡ Down → below.new.items ≡ below.old.items }

@@ -101,21 +101,21 @@ impl Fronts {
         let Some(age) = age else {
             return false;
         };
-        let Some(place) = self.place_of(target) else {
+        let Some(index) = self.index_of(target) else {
             return false;
         };
-        if age <= self.ages[place].1 || !self.is_before(age, place + 1) {
+        if age <= self.ages[index].1 || !self.is_before(age, index + 1) {
             return false;
         }
-        self.ages[place].1 = age;
+        self.ages[index].1 = age;
         true
     }
 
-    /// Whether an age is below that at a place, where there is one.
-    fn is_before(&self, age: u64, place: usize) -> bool
-        ensures { result ≡ option_map_or (λ front. nat_lt age front.1) (slice_get self.now.ages place) true }
+    /// Whether an age is below that at an index, where there is one.
+    fn is_before(&self, age: u64, index: usize) -> bool
+        ensures { result ≡ option_map_or (λ front. nat_lt age front.1) (slice_get self.now.ages index) true }
     {
-        match self.ages.get(place) {
+        match self.ages.get(index) {
             None => true,
             Some(front) => age < front.1,
         }
@@ -126,13 +126,13 @@ impl Fronts {
         ensures ages { (y : ℕ) → age_for self.new y ≡ update nat_eq (age_for self.old) target None y }
         ensures places { self.old.places ≤ self.new.places }
     {
-        if let Some(place) = self.place_of(target) {
-            self.ages.remove(place);
+        if let Some(index) = self.index_of(target) {
+            self.ages.remove(index);
         }
     }
 
-    /// The place of a target.
-    fn place_of(&self, target: usize) -> Option<usize>
+    /// The index of a target.
+    fn index_of(&self, target: usize) -> Option<usize>
         ensures { result ≡ position (λ front. target == front.0) self.now.ages }
     {
         self.ages.iter().position(|front| target == front.0)
@@ -145,8 +145,8 @@ impl Fronts {
         ensures ages { (y : ℕ) → age_for self.new y ≡ update nat_eq (age_for self.old) target (Some age) y }
         ensures places { self.old.places ≤ self.new.places }
     {
-        let place = self.ages.as_slice().partition_point(|front| front.1 < age);
+        let index = self.ages.as_slice().partition_point(|front| front.1 < age);
         // There is room for it, so this does not fail.
-        let _ = self.ages.insert(place, (target, age));
+        let _ = self.ages.insert(index, (target, age));
     }
 }

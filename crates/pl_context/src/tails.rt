@@ -3,11 +3,11 @@
 ghost use Rattle.std.specs.Prelude.{◌≡◌, ◌+◌, ◌<◌, ◌^◌, ◌∷◌, ◌++◌, [], length, Option, Some, None, true, false};
 ghost use Rattle.pl_event.specs.declared.envelopes.Kind.{Kind};
 ghost use Rattle.pl_event.specs.declared.envelopes.Kind.TheVariants as kind;
-ghost use Rattle.pl_context.specs.declared.standing.Standing.TheVariants as stands;
+ghost use Rattle.pl_context.specs.declared.standing.Standing.TheVariants as standings;
 ghost use Rattle.pl_context.specs.declared.standing.Took.TheVariants as took;
 ghost use Rattle.pl_context.specs.Standings.{is_over, has_failed, cause_of};
 ghost use Rattle.pl_context.specs.ContextViews.{number_limit, one_of};
-ghost use Rattle.pl_context.specs.TailViews.{new_tail, EntersTail, kind_taken, taken_of, counted, RecordsItem, RecordsFlagItem, RecordsFlag, SamePlace, handed_over};
+ghost use Rattle.pl_context.specs.TailViews.{new_tail, EntersTail, kind_taken, taken_of, counted, RecordsItem, RecordsFlagItem, RecordsFlag, SameNode, handed_over};
 ghost use Rattle.pl_event.specs.declared.limits.TheConstants.{MAX_ITEMS};
 
 use crate::standing::{Standing, Took};
@@ -68,11 +68,11 @@ impl Tail {
         requires enters { EntersTail self.old envelope.lane }
         requires number { envelope.number ≡ kind_taken self.old envelope.lane.kind }
         requires limit { envelope.number < number_limit envelope.lane.kind }
-        ensures place { (self.new.channel ≡ self.old.channel) × (self.new.hop ≡ self.old.hop) }
+        ensures same_node { (self.new.channel ≡ self.old.channel) × (self.new.hop ≡ self.old.hop) }
         ensures handed { self.new.handed ≡ self.old.handed }
         ensures taken { (k : Kind) → kind_taken self.new k ≡ kind_taken self.old k + one_of k envelope.lane.kind }
-        ensures open { envelope.lane.kind ≡ kind.Data → self.old.standing ≡ stands.Open → RecordsItem (counted kind.Data self.old) envelope.item result self.new }
-        ensures ended { envelope.lane.kind ≡ kind.Data → self.old.standing ≡ stands.Ended → (result ≡ took.Ran) × (self.new ≡ counted kind.Data self.old) }
+        ensures open { envelope.lane.kind ≡ kind.Data → self.old.standing ≡ standings.Open → RecordsItem (counted kind.Data self.old) envelope.item result self.new }
+        ensures ended { envelope.lane.kind ≡ kind.Data → self.old.standing ≡ standings.Ended → (result ≡ took.Ran) × (self.new ≡ counted kind.Data self.old) }
         ensures flags { envelope.lane.kind ≡ kind.Flags → has_failed self.old.standing ≡ false →
             (result ≡ took.Ran) × RecordsFlagItem (counted kind.Flags self.old) envelope.item self.new }
         ensures dropped { has_failed self.old.standing ≡ true → (result ≡ took.Dropped) × (self.new ≡ counted envelope.lane.kind self.old) }
@@ -164,9 +164,9 @@ impl Tail {
     /// Takes an item of the data lane.
     fn take_item(&mut self, item: Item) -> Took
         requires { self.old.taken < MAX_ITEMS }
-        ensures place { SamePlace (counted kind.Data self.old) self.new }
-        ensures open { self.old.standing ≡ stands.Open → RecordsItem (counted kind.Data self.old) item result self.new }
-        ensures ended { self.old.standing ≡ stands.Ended → (result ≡ took.Ran) × (self.new ≡ counted kind.Data self.old) }
+        ensures same_node { SameNode (counted kind.Data self.old) self.new }
+        ensures open { self.old.standing ≡ standings.Open → RecordsItem (counted kind.Data self.old) item result self.new }
+        ensures ended { self.old.standing ≡ standings.Ended → (result ≡ took.Ran) × (self.new ≡ counted kind.Data self.old) }
         ensures dropped { has_failed self.old.standing ≡ true → (result ≡ took.Dropped) × (self.new ≡ counted kind.Data self.old) }
     {
         self.taken += 1;
@@ -182,7 +182,7 @@ impl Tail {
     /// Takes an item of the data lane, while it is open.
     fn take_open(&mut self, item: Item) -> Took
         requires room { self.old.handed + length self.old.events < self.old.taken }
-        ensures place { SamePlace self.old self.new }
+        ensures same_node { SameNode self.old self.new }
         ensures takes { RecordsItem self.old item result self.new }
     {
         match item {
@@ -211,7 +211,7 @@ impl Tail {
     #[inline(never)]
     fn take_flag(&mut self, item: Item) -> Took
         requires { self.old.flags_taken < 2 ^ 32 }
-        ensures place { SamePlace (counted kind.Flags self.old) self.new }
+        ensures same_node { SameNode (counted kind.Flags self.old) self.new }
         ensures flags { has_failed self.old.standing ≡ false → (result ≡ took.Ran) × RecordsFlagItem (counted kind.Flags self.old) item self.new }
         ensures dropped { has_failed self.old.standing ≡ true → (result ≡ took.Dropped) × (self.new ≡ counted kind.Flags self.old) }
     {
@@ -229,7 +229,7 @@ impl Tail {
 
     /// Records a flag, unless memory has run out for one before.
     fn add_flag(&mut self, value: bool)
-        ensures place { SamePlace self.old self.new }
+        ensures same_node { SameNode self.old self.new }
         ensures flag { RecordsFlag self.old value self.new }
     {
         if self.flags_stopped {

@@ -143,11 +143,11 @@ impl<A: Drop> Waiting<A> {
     }
 
     /// The envelope at a position among those for a target, counted from the oldest: None past the last.
-    pub fn get(&self, target: usize, place: usize) -> Option<&Envelope>
-        ensures { (entries : List (Entry A)) → Holds self.now entries → option_copied result ≡ slice_get (map (λ entry. entry.envelope) (filter (is_for target) entries)) place }
+    pub fn get(&self, target: usize, index: usize) -> Option<&Envelope>
+        ensures { (entries : List (Entry A)) → Holds self.now entries → option_copied result ≡ slice_get (map (λ entry. entry.envelope) (filter (is_for target) entries)) index }
     {
         let backlog = self.targets.get(target)?;
-        let entry = backlog.get(place)?;
+        let entry = backlog.get(index)?;
         Some(&entry.0)
     }
 

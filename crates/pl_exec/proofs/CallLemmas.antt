@@ -15,7 +15,7 @@ use Rattle.pl_event.specs.Meaning.{Meaning}
 use Rattle.pl_event.specs.Worlds.{World}
 use Rattle.pl_event.proofs.Lists.{some-of}
 use Rattle.pl_context.specs.declared.standing.Standing.{Standing}
-use Rattle.pl_context.specs.declared.standing.Standing.TheVariants as stands
+use Rattle.pl_context.specs.declared.standing.Standing.TheVariants as standings
 use Rattle.pl_context.specs.declared.standing.Took.{Took}
 use Rattle.pl_context.specs.declared.standing.Took.TheVariants as took
 use Rattle.pl_context.specs.Standings.{has_failed}
@@ -55,12 +55,12 @@ module _ {S : Type 0} (meaning : S → Meaning) (stands_after : S → List Event
   same-call c e answer t = by e.lane.kind refl c.standing refl
     where
       by : (k : Kind) → e.lane.kind ≡ k → (s : Standing) → c.standing ≡ s → c'.failed_by_call ≡ c.failed_by_call
-      by Data kind stands.Open at = by-item (counted Data c) e.item answer (t.open_item kind at)
-      by Data kind stands.Ended at = ap (λ (z : ContextView S). z.failed_by_call) (t.ended kind at).1
-      by Data kind (stands.Failed cause) at = ap (λ (z : ContextView S). z.failed_by_call) (t.dropped (ap has_failed at)).1 ∙ counted-call e.lane.kind c
-      by Flags kind stands.Open at = by-flag (counted Flags c) e.item answer (t.flags kind (ap has_failed at))
-      by Flags kind stands.Ended at = by-flag (counted Flags c) e.item answer (t.flags kind (ap has_failed at))
-      by Flags kind (stands.Failed cause) at = ap (λ (z : ContextView S). z.failed_by_call) (t.dropped (ap has_failed at)).1 ∙ counted-call e.lane.kind c
+      by Data kind standings.Open at = by-item (counted Data c) e.item answer (t.open_item kind at)
+      by Data kind standings.Ended at = ap (λ (z : ContextView S). z.failed_by_call) (t.ended kind at).1
+      by Data kind (standings.Failed cause) at = ap (λ (z : ContextView S). z.failed_by_call) (t.dropped (ap has_failed at)).1 ∙ counted-call e.lane.kind c
+      by Flags kind standings.Open at = by-flag (counted Flags c) e.item answer (t.flags kind (ap has_failed at))
+      by Flags kind standings.Ended at = by-flag (counted Flags c) e.item answer (t.flags kind (ap has_failed at))
+      by Flags kind (standings.Failed cause) at = ap (λ (z : ContextView S). z.failed_by_call) (t.dropped (ap has_failed at)).1 ∙ counted-call e.lane.kind c
 
 -- ---- a part
 

@@ -208,4 +208,6 @@ refused-keeps state q p p' same head k = record {
   tail_at = same.path.tail_hop ∙ k.tail_at;
   head_at = same-hops p p' same ∙ k.head_at;
   head = λ h is. k.head h (sym head ∙ is);
+  handed = same.path.handed ∙ k.handed;
+  gone = same.gone ∙ k.gone;
 }

@@ -23,7 +23,7 @@ use Rattle.pl_part.proofs.ShareLemmas.{share-taken-none, share-came-same}
 use Rattle.pl_channel.specs.Lanes.{world_of}
 use Rattle.pl_channel.specs.Channels.{executor_at, is_hop, origin_of, taken_of, writes_here, writes_of, came_of, data_lanes_of, target_of}
 use Rattle.pl_channel.specs.Ways.{lanes_between}
-use Rattle.pl_channel.specs.Placing.{ArePlaced}
+use Rattle.pl_channel.specs.WholeParts.{AreWholeParts}
 use Rattle.pl_channel.proofs.LanePlaces.{among-between, places-all}
 use Rattle.pl_channel.proofs.Wholes.{written}
 use Rattle.pl_world.specs.declared.session.Recorded.{Recorded}
@@ -57,7 +57,7 @@ pub record IsTable {S T : Type 0} (wholes : List (ChannelPartView S T)) (count :
   pub entering : (y : ℕ) (l : Lane) → has_lane l (lanes_of_senders (lanes_to lanes y)) ≡ true → (x : ℕ) × (x ≢ y) × (origin_of wholes l ≡ x) × (target_of wholes l ≡ y) × (is_lane wholes l ≡ true)
 
 module _ {S T : Type 0} (meaning : S → Meaning) (stands_after : S → List Event → Type 0) (state : T → TransportState) (plan : Plan) (rs : List (Recorded S T)) (planned : plan.channels ≡ map (channel_planned meaning state) rs)
-    (wholes : List (ChannelPartView S T)) (placed : ArePlaced meaning stands_after state rs wholes) (ruled : IsPlan plan) (x : ℕ) (parts : List (ChannelPartView S T)) (are : AreSharesOf meaning stands_after state wholes x parts) where
+    (wholes : List (ChannelPartView S T)) (placed : AreWholeParts meaning stands_after state rs wholes) (ruled : IsPlan plan) (x : ℕ) (parts : List (ChannelPartView S T)) (are : AreSharesOf meaning stands_after state wholes x parts) where
   abbrev IsHere : ℕ → ChannelPartView S T → Type 0
   IsHere c share = IsPlacedShare meaning stands_after state plan rs planned wholes placed x parts are c share
 

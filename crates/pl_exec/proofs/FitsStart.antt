@@ -12,9 +12,9 @@ use Rattle.pl_build.specs.declared.limits.TheConstants.{MAX_EXECUTORS}
 use Rattle.pl_head.specs.Transports.{TransportState}
 use Rattle.pl_part.specs.Parts.{ChannelPartView}
 use Rattle.pl_channel.specs.Lanes.{world_of}
-use Rattle.pl_channel.specs.Placing.{ArePlaced}
+use Rattle.pl_channel.specs.WholeParts.{AreWholeParts}
 use Rattle.pl_channel.specs.PlanStand.{PartsKeepPlan}
-use Rattle.pl_channel.proofs.PlacedParts.{starts-keep}
+use Rattle.pl_channel.proofs.WholeParts.{starts-keep}
 use Rattle.pl_world.specs.declared.session.Recorded.{Recorded}
 use Rattle.pl_world.specs.Plans.{Plan, channel_planned}
 use Rattle.pl_world.specs.PlanRules.{IsPlan}
@@ -33,7 +33,7 @@ use Rattle.pl_exec.proofs.SharesHere.{dealt-by-channel, here-in-order, shares-by
 use Rattle.pl_exec.proofs.SharesStand.{shares-stand, shares-tell}
 
 module _ {S T : Type 0} (meaning : S → Meaning) (stands_after : S → List Event → Type 0) (state : T → TransportState) (world : World) (plan : Plan) (is_world : world ≡ world_of true plan) (rs : List (Recorded S T))
-    (planned : plan.channels ≡ map (channel_planned meaning state) rs) (wholes : List (ChannelPartView S T)) (placed : ArePlaced meaning stands_after state rs wholes) (ruled : IsPlan plan) (few : plan.executors ≤ MAX_EXECUTORS)
+    (planned : plan.channels ≡ map (channel_planned meaning state) rs) (wholes : List (ChannelPartView S T)) (placed : AreWholeParts meaning stands_after state rs wholes) (ruled : IsPlan plan) (few : plan.executors ≤ MAX_EXECUTORS)
     (lanes : LaneTable) (table : IsTable wholes plan.executors lanes) where
   module _ (words : List ChannelNames) (heads : List (Option SeatsView)) (new : AreNewlySeated words (map plan_marks plan.channels) heads) where
     keeps : PartsKeepPlan state plan wholes

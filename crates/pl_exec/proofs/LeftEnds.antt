@@ -16,7 +16,7 @@ use Rattle.pl_context.specs.ContextViews.{ContextView}
 use Rattle.pl_context.specs.Standings.{is_over}
 use Rattle.pl_context.specs.TailViews.{TailView}
 use Rattle.pl_head.specs.Transports.{TransportState}
-use Rattle.pl_head.specs.HeadStand.{HeadView}
+use Rattle.pl_head.specs.HeadStand.{HeadView, gone_of}
 use Rattle.pl_part.specs.Paths.{context_at, is_slot_over, path_over}
 use Rattle.pl_part.specs.Parts.{ChannelPartView, head_hop}
 use Rattle.pl_channel.specs.Lanes.{world_of}
@@ -118,6 +118,7 @@ module _ {T : Type 0} (state : T → TransportState) (plan : Plan) where
             holds = own.0;
             channel = own.1 ∙ stands.channel;
             at = own.2 ∙ keeps.tail_at;
+            handed = sym (ap (λ (o : Option TailView). option_map_or (λ (t : TailView). t.handed) o 0) there) ∙ keeps.handed;
             over = sym (ap (λ (o : Option TailView). option_map_or (λ (t : TailView). is_over t.standing) o true) there)
                 ∙ (and_parts (list_all (λ (slot : Option (ContextView S)). is_slot_over slot) part.path.contexts) (option_map_or (λ (t : TailView). is_over t.standing) part.path.tail true) ended).1;
           }
@@ -131,6 +132,7 @@ module _ {T : Type 0} (state : T → TransportState) (plan : Plan) where
             holds = own.0;
             channel = own.1 ∙ stands.channel;
             at = own.2 ∙ keeps.head_at;
+            gone = sym (ap (λ (o : Option (HeadView T)). option_map_or (λ (h : HeadView T). gone_of h) o (0, false)) there) ∙ keeps.gone;
             over = sym (ap (λ (o : Option (HeadView T)). option_map_or (λ (h : HeadView T). is_over h.standing || is_some h.failure) o true) there) ∙ ended;
             written = λ ys zs sizes after. over.written h ys zs sizes there after;
             read = sym (ap (λ (o : Option (HeadView T)). option_map_or (λ (h : HeadView T). h.input.port.is_open) o false) there) ∙ over.read;

@@ -2,6 +2,7 @@ pub mod ListSteps
 pub mod EachWith
 pub mod ByChannel
 pub mod PartsHere
+pub mod Ways
 pub mod Columns
 pub mod LaneLemmas
 pub mod StartLemmas

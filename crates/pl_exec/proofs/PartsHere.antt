@@ -266,7 +266,7 @@ module _ {S T : Type 0} (plan : Plan) (n : ExecutorNodes S T) (order : AreInOrde
   pub position-read : (c v : ℕ) → c < length plan.channels → v ≡ get_or n.positions.items c v → v ≡ row_position here c
   position-read c v within read = read ∙ ap (λ (l : List ℕ). get_or l c v) order.positions ∙ get_or-map-range_with_len (row_position here) 0 (length plan.channels) c c v within (omega arith)
 
-  -- the channel of a head at a place
+  -- the channel of a head at a position
   pub own-at : (at k : ℕ) → at < length n.own.items → k ≡ get_or n.own.items at k → get_or (own_channels n) at 0 ≡ get_or here k 0
   own-at at k there read = get_or-map (λ (j : ℕ). get_or here j 0) n.own.items at k 0 there ∙ ap (λ (j : ℕ). get_or here j 0) (sym read)
 
@@ -287,6 +287,25 @@ module _ {S T : Type 0} (plan : Plan) (n : ExecutorNodes S T) (order : AreInOrde
       let at = slice_get_read n.parts.items (length n.parts.items) k p refl (omega (arith, there, size)) read in
       (sym (position-one here c k (sym is) there), there, at, part-at k p at)
 
+  -- ---- a lane that is written here
+
+  module _ (meaning : S → Meaning) (l : Lane) (writes : writes_of meaning (channel_parts plan n) l ≡ true) where
+    -- its channel is in the table
+    pub written-slot : l.channel < length n.positions.items
+    written-slot = let within = written-within meaning l writes in let size = positions-count in omega (arith, within, size)
+
+    written-is : (k : ℕ) → k ≡ get_or n.positions.items l.channel k → k ≡ row_position here l.channel
+    written-is k read = position-read l.channel k (written-within meaning l writes) read
+
+    -- and what stands there is the position of a part
+    pub written-position : (k : ℕ) → k ≡ get_or n.positions.items l.channel k → k < length n.parts.items
+    written-position k read = let there = written-here meaning l writes in let is = written-is k read in let size = order.parts in omega (arith, there, is, size)
+
+    -- that of its channel
+    pub written-part : (k : ℕ) (p : ChannelPartView S T) → k ≡ get_or n.positions.items l.channel k → p ≡ get_or n.parts.items k p
+        → (l.channel ≡ get_or here k 0) × (k < length here) × (slice_get n.parts.items k ≡ Some p) × (slice_get (channel_parts plan n) (get_or here k 0) ≡ Some p)
+    written-part k p read at = read-part l.channel k p (written-here meaning l writes) (written-is k read) at
+
   -- ---- what enters this executor
 
   module _ (world : World) (meaning : S → Meaning) (stands_after : S → List Event → Type 0) (state : T → TransportState) (stand : NodesStand world plan meaning stands_after state n.number n.was_refused (channel_parts plan n)) (l : Lane)
@@ -301,3 +320,19 @@ module _ {S T : Type 0} (plan : Plan) (n : ExecutorNodes S T) (order : AreInOrde
         let own = stand.parts l.channel p.0 p.1 in
         let enters-it = sym (ap (λ (o : Option (ChannelPartView S T)). option_map_or (λ (q : ChannelPartView S T). enters q l) o nobody) p.1) ∙ enter in
         entered-here l p.0 p.1 (enters-here n.number l.channel p.0 own.resident own.channel own.holds.hops l stand.number refl enters-it)
+
+    -- it is in the table
+    pub enters-slot : l.channel < length n.positions.items
+    enters-slot = let within = enters-within in let size = positions-count in omega (arith, within, size)
+
+    enters-is : (k : ℕ) → k ≡ get_or n.positions.items l.channel k → k ≡ row_position here l.channel
+    enters-is k read = position-read l.channel k enters-within read
+
+    -- what stands there is the position of a part
+    pub enters-index : (k : ℕ) → k ≡ get_or n.positions.items l.channel k → k < length n.parts.items
+    enters-index k read = let there = enters-position in let is = enters-is k read in let size = order.parts in omega (arith, there, is, size)
+
+    -- that of its channel
+    pub enters-part : (k : ℕ) (p : ChannelPartView S T) → k ≡ get_or n.positions.items l.channel k → p ≡ get_or n.parts.items k p
+        → (l.channel ≡ get_or here k 0) × (k < length here) × (slice_get n.parts.items k ≡ Some p) × (slice_get (channel_parts plan n) (get_or here k 0) ≡ Some p)
+    enters-part k p read at = read-part l.channel k p enters-position (enters-is k read) at

@@ -16,7 +16,7 @@ use Rattle.pl_threads.specs.Running.{ExecutorView, FinishedView, EndsAs}
 use Rattle.pl_head.specs.Transports.{TransportState}
 use Rattle.pl_part.specs.Parts.{ChannelPartView}
 use Rattle.pl_channel.specs.Ways.{ArePlaceable}
-use Rattle.pl_channel.proofs.PlacedParts.{placeable, recorded-at}
+use Rattle.pl_channel.proofs.WholeParts.{placeable, recorded-at}
 use Rattle.pl_world.specs.Plans.{Plan, channel_planned}
 use Rattle.pl_exec.specs.declared.nodes.ExecutorNodes.{ExecutorNodes}
 use Rattle.pl_exec.specs.Lanes.{AreLaid, lane_table}
@@ -48,13 +48,13 @@ module _ {S T : Type 0} (meaning : S → Meaning) (stands_after : S → List Eve
         omega (arith, same, hops, few));
   }
 
--- where each is numbered by its place, the numbers are those from the first on
+-- where each is numbered by its position, the numbers are those from the first on
 pub numbered-in-order : {A : Type 0} (f : A → ℕ) (xs : List A) (first : ℕ) → ((i : ℕ) (x : A) → slice_get xs i ≡ Some x → f x ≡ first + i) → map f xs ≡ range_with_len first (length xs)
 numbered-in-order f [] first each = refl
 numbered-in-order f (x ∷ xs) first each =
     ap₂ (λ (n : ℕ) (ns : List ℕ). n ∷ ns) (each 0 x refl ∙ omega arith) (numbered-in-order f xs (first + 1) (λ i y at. each (suc i) y at ∙ omega arith))
 
--- Executors with these parts, each with the number of its place, are numbered from 0 on.
+-- Executors with these parts, each with the number of its position, are numbered from 0 on.
 pub executors-in-order : {P N : Type 0} (first : P → ExecutorView N) (executors : List P) (nodes : List N) (count : ℕ) → map (λ e. (first e).nodes) executors ≡ nodes → length nodes ≡ count
     → ((y : ℕ) (e : ExecutorView N) → slice_get (map first executors) y ≡ Some e → IsFirst y e) → map (λ e. (first e).number) executors ≡ range_with_len 0 count
 executors-in-order {P = P} {N = N} first executors nodes count parts size numbered =

@@ -34,7 +34,7 @@ module _ {T : Type 0} (state : T → TransportState) (plan : Plan) (c : ℕ) (p 
     (own : IsLeftTail plan c p tail) (last : IsLeftHead state plan c p head) where
   -- they hold in the world of the plan
   abbrev pub held : EndsHold state true plan c p tail head
-  held = record { planned = planned; tail_holds = own.holds; tail_channel = own.channel; tail_at = own.at; head_holds = last.holds; head_channel = last.channel; head_at = last.at }
+  held = record { planned = planned; tail_holds = own.holds; tail_channel = own.channel; tail_at = own.at; head_holds = last.holds; head_channel = last.channel; head_at = last.at; handed = own.handed; gone = last.gone }
 
   abbrev took : HeadTook state last.holds.events head
   took = last.holds.holds.took

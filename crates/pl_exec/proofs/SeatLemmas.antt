@@ -19,7 +19,7 @@ use Rattle.pl_part.specs.Parts.{ChannelPartView}
 use Rattle.pl_part.specs.Told.{IsTold, part_untold, told_head}
 use Rattle.pl_part.proofs.ShareLemmas.{only-some}
 use Rattle.pl_part.proofs.ToldLemmas.{none-told}
-use Rattle.pl_channel.specs.Placing.{IsNewHead}
+use Rattle.pl_channel.specs.WholeParts.{IsNewHead}
 use Rattle.pl_words.specs.declared.watermark.TheConstants.{MAX_SETS}
 use Rattle.pl_world.specs.declared.session.Recorded.{Recorded}
 use Rattle.pl_world.specs.Plans.{ChannelPlan, Plan, channel_planned}

@@ -14,9 +14,9 @@ use Rattle.pl_part.specs.Paths.{context_at}
 use Rattle.pl_part.specs.Parts.{ChannelPartView, head_hop}
 use Rattle.pl_part.specs.Shares.{IsShare, IsShareOf, executor_of, only_if}
 use Rattle.pl_part.proofs.ShareLemmas.{share-is-of}
-use Rattle.pl_channel.specs.Placing.{ArePlaced, IsWhole}
+use Rattle.pl_channel.specs.WholeParts.{AreWholeParts, IsWhole}
 use Rattle.pl_channel.specs.PlanStand.{PartsKeepPlan}
-use Rattle.pl_channel.proofs.PlacedParts.{recorded-at, starts-keep}
+use Rattle.pl_channel.proofs.WholeParts.{recorded-at, starts-keep}
 use Rattle.pl_world.specs.declared.session.Recorded.{Recorded}
 use Rattle.pl_world.specs.Plans.{ChannelPlan, Plan, channel_planned, planned_head_hop}
 use Rattle.pl_exec.specs.declared.nodes.ExecutorNodes.{ExecutorNodes}
@@ -69,7 +69,7 @@ module _ {S T : Type 0} (state : T → TransportState) (c : ℕ) (q : ChannelPla
 -- ---- all channels
 
 module _ {S T : Type 0} (meaning : S → Meaning) (stands_after : S → List Event → Type 0) (state : T → TransportState) (plan : Plan) (rs : List (Recorded S T)) (planned : plan.channels ≡ map (channel_planned meaning state) rs)
-    (wholes : List (ChannelPartView S T)) (placed : ArePlaced meaning stands_after state rs wholes) (x : ℕ) (words : List ChannelNames) (heads : List (Option SeatsView)) (same : length heads ≡ length wholes)
+    (wholes : List (ChannelPartView S T)) (placed : AreWholeParts meaning stands_after state rs wholes) (x : ℕ) (words : List ChannelNames) (heads : List (Option SeatsView)) (same : length heads ≡ length wholes)
     (nodes : ExecutorNodes S T) (has : HasShares meaning stands_after state wholes words heads x (channels_on wholes x) nodes) where
   keeps : PartsKeepPlan state plan wholes
   keeps = starts-keep meaning stands_after state plan rs planned wholes placed

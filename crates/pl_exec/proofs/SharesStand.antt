@@ -16,21 +16,23 @@ use Rattle.pl_event.proofs.SameLanes.{same_lane-self}
 use Rattle.pl_build.specs.declared.limits.TheConstants.{MAX_EXECUTORS}
 use Rattle.pl_context.specs.declared.ports.Port.{Port}
 use Rattle.pl_context.specs.declared.standing.Standing.{Standing}
-use Rattle.pl_context.specs.declared.standing.Standing.TheVariants as stands
+use Rattle.pl_context.specs.declared.standing.Standing.TheVariants as standings
 use Rattle.pl_context.specs.Standings.{is_over, has_failed}
+use Rattle.pl_context.specs.TailViews.{TailView}
 use Rattle.pl_context.specs.ContextViews.{ContextView, IsHop, down_hop}
 use Rattle.pl_flow.specs.Flows.{Point, point, nowhere}
+use Rattle.pl_head.specs.HeadStand.{HeadView, gone_of}
 use Rattle.pl_head.specs.Transports.{TransportState}
 use Rattle.pl_part.specs.ContextHolds.{port_point, context_writes, context_came}
 use Rattle.pl_part.specs.Paths.{IsAt, context_at, writer_hop, enters_path}
 use Rattle.pl_part.specs.Parts.{ChannelPartView, PartHolds, head_hop, has_entered, part_writes, part_came}
-use Rattle.pl_part.specs.Shares.{IsShare, IsShareOf, executor_of}
+use Rattle.pl_part.specs.Shares.{IsShare, IsShareOf, executor_of, only_if}
 use Rattle.pl_part.proofs.ShareLemmas.{share-entered, only-some}
 use Rattle.pl_channel.specs.Lanes.{world_of}
-use Rattle.pl_channel.specs.Placing.{IsAtStart, IsPlaced, ArePlaced}
+use Rattle.pl_channel.specs.WholeParts.{IsAtStart, IsWholePart, AreWholeParts}
 use Rattle.pl_channel.specs.PlanStand.{PartKeepsPlan}
 use Rattle.pl_channel.specs.Channels.{HasAllNodes}
-use Rattle.pl_channel.proofs.PlacedParts.{has-all-nodes, recorded-at, starts-keep}
+use Rattle.pl_channel.proofs.WholeParts.{has-all-nodes, recorded-at, starts-keep}
 use Rattle.pl_channel.proofs.Wholes.{enters, to-hop}
 use Rattle.pl_world.specs.declared.session.Recorded.{Recorded}
 use Rattle.pl_world.specs.Plans.{ChannelPlan, Plan, channel_planned}
@@ -83,9 +85,9 @@ opened p e = by p.is_open (ap (λ (q : Point). q.over) e)
     by false e = cc
 
 failed-over : (s : Standing) → has_failed s ≡ true → is_over s ≡ true
-failed-over stands.Open e = e
-failed-over stands.Ended e = refl
-failed-over (stands.Failed cause) e = refl
+failed-over standings.Open e = e
+failed-over standings.Ended e = refl
+failed-over (standings.Failed cause) e = refl
 
 module _ {S T : Type 0} (world : World) (meaning : S → Meaning) (stands_after : S → List Event → Type 0) (state : T → TransportState) (p : ChannelPartView S T) (holds : PartHolds world meaning stands_after state p)
     (unmoved : IsAtStart meaning p) (hop : ℕ) (c : ContextView S) (at : context_at p.path hop ≡ Some c) where
@@ -144,14 +146,14 @@ module _ {S T : Type 0} (world : World) (meaning : S → Meaning) (stands_after 
 -- ---- the shares of all channels
 
 module _ {S T : Type 0} (meaning : S → Meaning) (stands_after : S → List Event → Type 0) (state : T → TransportState) (plan : Plan) (rs : List (Recorded S T)) (planned : plan.channels ≡ map (channel_planned meaning state) rs)
-    (wholes : List (ChannelPartView S T)) (placed : ArePlaced meaning stands_after state rs wholes) (x : ℕ) (parts : List (ChannelPartView S T)) (are : AreSharesOf meaning stands_after state wholes x parts) where
+    (wholes : List (ChannelPartView S T)) (placed : AreWholeParts meaning stands_after state rs wholes) (x : ℕ) (parts : List (ChannelPartView S T)) (are : AreSharesOf meaning stands_after state wholes x parts) where
   -- a share is that of a placed channel
   pub record IsPlacedShare (c : ℕ) (share : ChannelPartView S T) : Type 0 where
     pub whole : ChannelPartView S T
     pub at : slice_get wholes c ≡ Some whole
     pub recorded : Recorded S T
     pub planned_at : slice_get plan.channels c ≡ Some (channel_planned meaning state recorded)
-    pub is_placed : IsPlaced meaning stands_after state c recorded whole
+    pub is_placed : IsWholePart meaning stands_after state c recorded whole
     pub holds : PartHolds (world_of true plan) meaning stands_after state whole
     pub keeps : PartKeepsPlan state (channel_planned meaning state recorded) whole
     pub is : IsShareOf meaning stands_after state (λ e. e == x) whole share
@@ -183,12 +185,19 @@ module _ {S T : Type 0} (meaning : S → Meaning) (stands_after : S → List Eve
         (only-some (executor_of s.whole.path hop == x) (context_at s.whole.path hop) k (sym (s.is.share_is.path.contexts hop) ∙ at));
   }
 
+  -- of what there is none there is none in a share
+  none-of : {A C : Type 0} (count : A → C) (zero : C) (mine : Bool) (slot : Option A) → option_map_or count slot zero ≡ zero → option_map_or count (only_if mine slot) zero ≡ zero
+  none-of count zero true slot none = none
+  none-of count zero false slot none = refl
+
   part-keeps : (c : ℕ) (share : ChannelPartView S T) (s : IsPlacedShare c share) → PartKeepsPlan state (channel_planned meaning state s.recorded) share
   part-keeps c share s = record {
     executors = s.is.share_is.path.executors ∙ s.keeps.executors;
     tail_at = s.is.share_is.path.tail_hop ∙ s.keeps.tail_at;
     head_at = s.is.share_is.path.slots ∙ s.keeps.head_at;
     head = λ h at. s.keeps.head h (only-some (executor_of s.whole.path (head_hop s.whole) == x) s.whole.head h (sym s.is.share_is.head ∙ at));
+    handed = ap (λ (o : Option TailView). option_map_or (λ (t : TailView). t.handed) o 0) s.is.share_is.path.tail ∙ none-of (λ (t : TailView). t.handed) 0 (executor_of s.whole.path s.whole.path.tail_hop == x) s.whole.path.tail s.keeps.handed;
+    gone = ap (λ (o : Option (HeadView T)). option_map_or (λ (h : HeadView T). gone_of h) o (0, false)) s.is.share_is.head ∙ none-of (λ (h : HeadView T). gone_of h) (0, false) (executor_of s.whole.path (head_hop s.whole) == x) s.whole.head s.keeps.gone;
   }
 
   pub shares-stand : (refused : Bool) → plan.executors ≤ MAX_EXECUTORS → x < plan.executors → NodesStand (world_of true plan) plan meaning stands_after state x refused parts

@@ -1,31 +1,32 @@
 -- An executor before its first turn: what its nodes, its outboxes and its own queue have come to.
-use Rattle.std.proofs.Common.{◌≡◌, ◌≢◌, ℕ, ◌<◌, true, false, List, [], length, map, slice_get, Option, Some, None, ap, sym, ◌∙◌, subst, arith}
-use Rattle.std.specs.List.{AllZip}
+use Rattle.std.proofs.Common.{◌≡◌, ◌≢◌, ℕ, ◌-◌, ◌<◌, ◌^◌, true, false, List, [], ◌∷◌, length, map, get_or, slice_get, Option, Some, None, refl, ap, sym, ◌∙◌, subst, ⊎_elim, arith}
 use Rattle.std.specs.Option.{option_map, option_map_or}
-use Rattle.std.proofs.lemmas.Option.{none-some, same_Some, slice_get-map}
+use Rattle.std.proofs.lemmas.Bool.{cases_eq, false≢true}
+use Rattle.std.proofs.lemmas.Option.{none-some, same_Some, slice_get-map, slice_get_within, get_or_from_slice_get}
 use Rattle.pl_event.specs.declared.envelopes.Lane.{Lane}
 use Rattle.pl_event.specs.Worlds.{World}
 use Rattle.pl_event.proofs.Lists.{All-at, at-index}
 use Rattle.pl_context.specs.Backlogs.{BacklogView}
 use Rattle.pl_context.specs.declared.waiting.Stamp.{Stamp}
 use Rattle.pl_context.specs.OutputsViews.{OutputsView}
-use Rattle.pl_context.specs.Stops.{StopsView, HasPlaces, no_stops}
+use Rattle.pl_context.specs.Stops.{StopsView, AreAmong, HasPlaces, no_stops}
 use Rattle.pl_context.specs.WaitingViews.{stops_for}
 use Rattle.pl_queue.specs.declared.views.SenderView.{SenderView}
 use Rattle.pl_queue.specs.declared.views.TakerView.{TakerView}
 use Rattle.pl_queue.specs.Ends.{MailboxEnds}
 use Rattle.pl_queue.specs.Left.{lanes_of_senders}
-use Rattle.pl_queue.specs.Views.{next_of}
+use Rattle.pl_queue.specs.Views.{has_lane, next_of}
 use Rattle.pl_words.specs.Admissions.{AdmittedView}
 use Rattle.pl_flow.specs.Flows.{point, nowhere, on, past}
 use Rattle.pl_outbox.specs.Sent.{sent_at}
-use Rattle.pl_outbox.specs.OutboxViews.{OutboxView, OutboxesView, waits_for, sent_to, reached}
+use Rattle.pl_outbox.specs.OutboxViews.{OutboxView, OutboxesView, waits_for, sent_to, way_to, reached}
 use Rattle.pl_threads.specs.NodesViews.{OwnNodesView}
 use Rattle.pl_threads.specs.Running.{RunsOn, IsTaking}
 use Rattle.pl_threads.proofs.RunLemmas.{runs-start}
-use Rattle.pl_exec.specs.Opening.{lanes_to, table_lanes, InboxView, OwnView, ColumnView, PlacesView, AreColumns, HasNext, column_after, Starts, CanStart}
-use Rattle.pl_exec.proofs.Columns.{columns-after, outbox-fresh, outboxes-count}
+use Rattle.pl_exec.specs.Opening.{lanes_to, table_lanes, is_way, InboxView, OwnView, ColumnView, PlacesView, AreColumns, HasWays, columns_after, Starts, CanStart}
+use Rattle.pl_exec.proofs.Columns.{columns-after, next-column, outbox-fresh}
 use Rattle.pl_exec.proofs.LaneLemmas.{sent_at-fresh, next_of-new}
+use Rattle.pl_exec.proofs.Ways.{own-way, lanes-way}
 
 found-or : {A B : Type 0} (f : A → B) (found : Option A) (d b : B) → option_map f found ≡ Some b → option_map_or f found d ≡ b
 found-or f None d b is = absurd (none-some b is)
@@ -42,31 +43,71 @@ module _ {M S T N : Type 0} (ends : MailboxEnds M S T) (view_of : N → OwnNodes
       let enters = s.fits.entering l new.0 in
       (enters.0, enters.1, enters.2 ∙ new.1)
 
-  module _ (made : List OutboxView) (has : AllZip (HasNext ends) columns made) (world : World) (o : OutboxesView) (outboxes : o.outboxes ≡ made) (waits : (y : ℕ) → waits_for o y ≡ []) (reserved : map (λ b. b.stopped) o.waiting.targets ≡ map no_stops places.targets) where
-    count : length o.outboxes ≡ length s.lanes
-    count = ap (λ (l : List OutboxView). length l) outboxes ∙ outboxes-count ends inboxes columns s.left.count made has ∙ s.count
+  module _ (numbers : List ℕ) (made : List OutboxView) (counts : List ℕ) (has : HasWays ends me columns places.targets (length inboxes) numbers made counts) (world : World) (o : OutboxesView) (outboxes : o.outboxes ≡ made) (ways : o.ways ≡ numbers)
+      (waits : (y : ℕ) → waits_for o y ≡ []) (reserved : map (λ b. b.stopped) o.waiting.targets ≡ map no_stops counts) where
+    count : length o.outboxes ≡ length has.targets
+    count = ap (λ (l : List OutboxView). length l) outboxes ∙ sym has.outboxes_count
 
-    -- nothing was sent on a lane that the nodes write
-    sent-first : (l : Lane) → (view_of nodes).lanes.target l ≢ me → (view_of nodes).lanes.written l ≡ true → sent_to o ((view_of nodes).lanes.target l) l ≡ point 0 false
+    -- by way the lanes to its target
+    abbrev hops : ℕ → List Lane
+    hops way = s.fits.hops (get_or has.targets way 0)
+
+    -- there is a way for each lane that the nodes write
+    way-for : (l : Lane) → (view_of nodes).lanes.written l ≡ true → (slice_get has.targets (way_to o ((view_of nodes).lanes.target l)) ≡ Some ((view_of nodes).lanes.target l))
+    way-for l written =
+        let y = (view_of nodes).lanes.target l in
+        let there = s.fits.there l written in
+        let inbox = at-index inboxes y (omega (arith, there, s.count)) in
+        let c = at-index columns y (omega (arith, there, s.count, s.left.count)) in
+        let next = next-column ends s.lanes s.square me inboxes columns s.left s.count here y inbox.0 c.0 inbox.1 c.1 (is-way y l written refl) in
+        let way = has.ways y c.0 (omega (arith, there, s.count)) c.1 next in
+        ap (λ (k : ℕ). slice_get has.targets k) (ap (λ (ws : List ℕ). get_or ws y (2 ^ 16 - 1)) ways ∙ get_or_from_slice_get numbers y way.0 (2 ^ 16 - 1) way.1) ∙ way.2
+      where
+        has-some : (l : Lane) (lanes : List Lane) → has_lane l lanes ≡ true → 0 < length lanes
+        has-some l [] h = absurd (false≢true h)
+        has-some l (m ∷ ms) h = omega arith
+
+        is-way : (y : ℕ) (l : Lane) → (view_of nodes).lanes.written l ≡ true → (view_of nodes).lanes.target l ≡ y → is_way y me (table_lanes s.lanes me y) ≡ true
+        is-way y l written to = ⊎_elim
+            (λ (e : y ≡ me). subst (λ (k : ℕ). is_way k me (table_lanes s.lanes me k) ≡ true) (sym e) (own-way me (table_lanes s.lanes me me)))
+            (λ (e : y ≡ me → ⊥).
+            lanes-way y me (table_lanes s.lanes me y) (has-some l (table_lanes s.lanes me y) (subst (λ (k : ℕ). has_lane l (table_lanes s.lanes me k) ≡ true) to (s.fits.away l written (λ t. e (sym to ∙ t))))))
+            (cases_eq y me)
+
+    way-there : (l : Lane) → (view_of nodes).lanes.written l ≡ true → way_to o ((view_of nodes).lanes.target l) < length o.outboxes
+    way-there l written =
+        let within = slice_get_within has.targets (way_to o ((view_of nodes).lanes.target l)) ((view_of nodes).lanes.target l) (way-for l written) in omega (arith, within, count)
+
+    -- nothing was sent on it
+    sent-first : (l : Lane) → (view_of nodes).lanes.target l ≢ me → (view_of nodes).lanes.written l ≡ true → sent_to o (way_to o ((view_of nodes).lanes.target l)) l ≡ point 0 false
     sent-first l away written =
         let x = (view_of nodes).lanes.target l in
-        let there = s.fits.there l written in
-        let b = at-index made x (omega (arith, there, s.count, outboxes-count ends inboxes columns s.left.count made has)) in
-        ap (λ (bs : List OutboxView). option_map_or (λ (b : OutboxView). sent_at b.sends.send_counts l) (slice_get bs x) nowhere) outboxes
+        let way = way_to o x in
+        let there = way-there l written in
+        let b = at-index made way (let same = ap (λ (l : List OutboxView). length l) outboxes in omega (arith, there, same)) in
+        ap (λ (bs : List OutboxView). option_map_or (λ (b : OutboxView). sent_at b.sends.send_counts l) (slice_get bs way) nowhere) outboxes
         ∙ ap (λ (b : Option OutboxView). option_map_or (λ (b : OutboxView). sent_at b.sends.send_counts l) b nowhere) b.1
-        ∙ ap (λ (v : SenderView). sent_at v.send_counts l) (outbox-fresh ends s.lanes s.square me inboxes columns s.left s.count here made has x b.0 b.1).sends
+        ∙ ap (λ (v : SenderView). sent_at v.send_counts l) (outbox-fresh ends s.lanes s.square me inboxes columns s.left s.count here places.targets numbers made counts has way x b.0 (way-for l written) b.1).sends
         ∙ sent_at-fresh (table_lanes s.lanes me x) l (s.fits.away l written away)
 
-    reached-first : (l : Lane) → (view_of nodes).lanes.target l ≢ me → (view_of nodes).lanes.written l ≡ true → reached o ((view_of nodes).lanes.target l) l ≡ point 0 false
-    reached-first l away written = ap (λ zs. past (sent_to o ((view_of nodes).lanes.target l) l) (on l zs)) (waits ((view_of nodes).lanes.target l)) ∙ sent-first l away written
+    reached-first : (l : Lane) → (view_of nodes).lanes.target l ≢ me → (view_of nodes).lanes.written l ≡ true → reached o (way_to o ((view_of nodes).lanes.target l)) l ≡ point 0 false
+    reached-first l away written = let way = way_to o ((view_of nodes).lanes.target l) in ap (λ zs. past (sent_to o way l) (on l zs)) (waits way) ∙ sent-first l away written
 
-    placed-first : (y : ℕ) → y < length o.outboxes → HasPlaces (stops_for o.waiting y) (s.fits.hops y)
-    placed-first y within =
-        let place = at-index places.targets y (omega (arith, within, count, s.fits.targets)) in
+    placed-first : (way : ℕ) → way < length o.outboxes → HasPlaces (stops_for o.waiting way) (hops way)
+    placed-first way within =
+        let target = at-index has.targets way (omega (arith, within, count)) in
+        let place = at-index counts way (let n = has.places_count in omega (arith, within, count, n)) in
         let stopped = λ (b : BacklogView (Stamp AdmittedView)). b.stopped in
-        let is : option_map stopped (slice_get o.waiting.targets y) ≡ Some (no_stops place.0) =
-        sym (slice_get-map stopped o.waiting.targets y) ∙ ap (λ (l : List StopsView). slice_get l y) reserved ∙ slice_get-map no_stops places.targets y ∙ ap (option_map no_stops) place.1 in
-        subst (λ (z : StopsView). HasPlaces z (s.fits.hops y)) (sym (found-or stopped (slice_get o.waiting.targets y) (no_stops 0) (no_stops place.0) is)) (s.fits.placed y place.0 place.1)
+        let is : option_map stopped (slice_get o.waiting.targets way) ≡ Some (no_stops place.0) =
+        sym (slice_get-map stopped o.waiting.targets way) ∙ ap (λ (l : List StopsView). slice_get l way) reserved ∙ slice_get-map no_stops counts way ∙ ap (option_map no_stops) place.1 in
+        subst (λ (z : StopsView × ℕ). HasPlaces z.0 (s.fits.hops z.1))
+        (λ i. (sym (found-or stopped (slice_get o.waiting.targets way) (no_stops 0) (no_stops place.0) is) i, sym (get_or_from_slice_get has.targets way target.0 0 target.1) i))
+        (s.fits.placed target.0 place.0 (has.placed way target.0 place.0 target.1 place.1))
+
+    among-first : (l : Lane) → (view_of nodes).lanes.written l ≡ true → AreAmong (l ∷ []) (hops (way_to o ((view_of nodes).lanes.target l)))
+    among-first l written =
+        let x = (view_of nodes).lanes.target l in
+        subst (λ (k : ℕ). AreAmong (l ∷ []) (s.fits.hops k)) (sym (get_or_from_slice_get has.targets (way_to o x) x 0 (way-for l written))) (s.fits.among l written)
 
     -- nothing was made, so all that was made has gone on
     pub starts-running : (work : OutputsView) → work.items ≡ [] → RunsOn world me (view_of nodes).lanes o work
@@ -74,20 +115,20 @@ module _ {M S T N : Type 0} (ends : MailboxEnds M S T) (view_of : N → OwnNodes
         runs-start world me (view_of nodes).lanes o work none
         (λ l here written. (false, s.fits.fresh l written ∙ ap (λ (n : ℕ). point n false) (sym (s.fits.own l written here))))
         (λ l away written. s.fits.fresh l written ∙ sym (reached-first l away written))
-        (λ l written away. let there = s.fits.there l written in omega (arith, there, count))
-        s.fits.hops placed-first s.fits.among
+        (λ l written away. way-there l written)
+        hops placed-first among-first
 
 -- each of the executors that can start does, once those before it have taken theirs from the columns
 pub each-starts : {M S T N : Type 0} (ends : MailboxEnds M S T) (view_of : N → OwnNodesView) (stands : N → Type 0) (inboxes : List (InboxView M)) (all : List (OwnView T)) (columns rest : List (ColumnView S)) (nodes : List N) (places : List PlacesView)
     → CanStart ends view_of stands inboxes all columns nodes places
-    → (number : ℕ) (own : OwnView T) (part : N) (reserved : PlacesView) → slice_get all number ≡ Some own → slice_get nodes number ≡ Some part → slice_get places number ≡ Some reserved → rest ≡ map (column_after number) columns
+    → (number : ℕ) (own : OwnView T) (part : N) (reserved : PlacesView) → slice_get all number ≡ Some own → slice_get nodes number ≡ Some part → slice_get places number ≡ Some reserved → rest ≡ columns_after number columns
     → Starts ends view_of stands inboxes number own rest part reserved
 each-starts ends view_of stands inboxes all columns rest nodes places can number own part reserved at-own at-nodes at-places are = record {
   lanes = can.lanes;
   square = can.square;
   count = can.count;
   own = λ inbox there. can.opened.own number inbox own there at-own;
-  left = subst (λ (cs : List (ColumnView _)). AreColumns ends can.lanes number inboxes cs) (sym are) (columns-after ends can.lanes number inboxes columns can.opened.whole);
+  left = subst (λ (cs : List (ColumnView _)). AreColumns ends can.lanes number inboxes cs) (sym are) (columns-after ends can.lanes number inboxes columns can.square can.count (let within = slice_get_within nodes number part at-nodes in let n = can.fit.nodes_count in omega (arith, within, n)) can.opened.whole);
   stood = All-at stands nodes number part can.fit.stand at-nodes;
   fits = can.fit.each number part reserved at-nodes at-places;
 }

@@ -68,6 +68,8 @@ module _ {S T : Type 0} (p p' : ChannelPartView S T) (told : IsTold p p') where
       tail_at = same.path.tail_hop ∙ keeps.tail_at;
       head_at = same-hops p p' same ∙ keeps.head_at;
       head = λ h is. head-keeps p.head refl h (sym (ap (λ (x : ChannelPartView S T). x.head) told.is) ∙ is);
+      handed = same.path.handed ∙ keeps.handed;
+      gone = same.gone ∙ keeps.gone;
     }
 
 -- ---- all parts

@@ -19,7 +19,7 @@ use Rattle.pl_head.specs.HeadStand.{HeadView, HeadStandsAfter, is_idle}
 use Rattle.pl_head.specs.ReadSteps.{plan_steps}
 use Rattle.pl_part.specs.Paths.{PathRefuses, context_at, writer_hop}
 use Rattle.pl_part.specs.Parts.{ChannelPartView, PartHolds, head_hop, all_over, has_read}
-use Rattle.pl_channel.specs.Placing.{turn_hop}
+use Rattle.pl_channel.specs.WholeParts.{turn_hop}
 use Rattle.pl_channel.specs.PlanStand.{PartsKeepPlan}
 use Rattle.pl_threads.specs.NodesViews.{OwnNodesView}
 use Rattle.pl_threads.specs.Serving.{Served}
@@ -175,7 +175,7 @@ module _ {S T : Type 0} (state : T → TransportState) where
     pub here : MayMove state ps by c b
     pub elsewhere : (p : ChannelPartView S T) → slice_get ps c ≡ Some p → p.head ≡ None → b ≡ false
 
-  -- Whether it is for the channel at a place of this list.
+  -- Whether it is for the channel at a position of this list.
   pub record MayMoveOwn (ps : List (ChannelPartView S T)) (own : List ℕ) (by : HeadMove) (at : ℕ) (b : Bool) : Type 0 where
     pub channel : ℕ
     pub is : slice_get own at ≡ Some channel

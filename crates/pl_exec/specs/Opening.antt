@@ -1,6 +1,7 @@
 -- The inboxes of all executors once they are open, what each executor has of them, and the nodes with which it starts.
 use Rattle.std.specs.Global.{Vec}
-use Rattle.std.specs.Prelude.{◌≡◌, ◌≢◌, ℕ, ◌<◌, ◌^◌, true, false, List, [], ◌∷◌, drop, length, map, get_or, slice_get, All, Some, None}
+use Rattle.std.specs.Prelude.{◌≡◌, ◌≢◌, ℕ, zero, suc, ◌+◌, ◌<◌, ◌≤◌, ◌^◌, ◌==◌, ◌||◌, Bool, true, false, not, cond, List, [], ◌∷◌, drop, length, map, get_or, slice_get, All, Some, None}
+use Rattle.std.specs.Option.{option_map_or}
 use Rattle.pl_event.specs.declared.envelopes.Lane.{Lane}
 use Rattle.pl_context.specs.Stops.{HasPlaces, AreAmong, no_stops}
 use Rattle.pl_queue.specs.Ends.{MailboxEnds}
@@ -58,20 +59,57 @@ pub record InboxView (M : Type 0) : Type 0 where
 abbrev pub inbox_view : {W M S T : Type 0} → Inbox W M S T → InboxView M
 inbox_view inbox = record { mailbox = inbox.mailbox; name = inbox.admission.name }
 
+-- ---- the ways to a target
+
+-- The way of an executor to a target, by the lanes between them.
+pub record Way : Type 0 where
+  pub sender : ℕ
+  pub lanes : List Lane
+
+abbrev pub way_by : ℕ → List Lane → Way
+way_by sender lanes = record { sender = sender; lanes = lanes }
+
+-- an executor has a way to each target to which it has lanes, and to itself
+abbrev pub is_way : ℕ → ℕ → List Lane → Bool
+is_way target sender lanes = (sender == target) || not (length lanes == 0)
+
+-- the ways to a target from executors with these lanes there, of which the first has this number
+abbrev pub ways_from : ℕ → ℕ → List (List Lane) → List Way
+ways_from target n [] = []
+ways_from target n (lanes ∷ more) = cond (is_way target n lanes) (way_by n lanes ∷ ways_from target (n + 1) more) (ways_from target (n + 1) more)
+
+-- those of all executors
+abbrev pub ways_to : ℕ → List (List Lane) → List Way
+ways_to target senders = ways_from target 0 senders
+
 -- What an executor has of its own inbox.
 pub record OwnView (T : Type 0) : Type 0 where
   pub taker : T
   pub owner : OwnerSeatView
 
--- The column of a target: the senders of its mailbox and the seats of its admission that are left for executors, one of each
--- for the next executor, and so on.
+-- The column of a target: the senders of its mailbox and the seats of its admission that are left for executors with a way
+-- there, one of each for the next of these, and so on.
 pub record ColumnView (S : Type 0) : Type 0 where
+  pub numbers : List ℕ
   pub senders : List S
   pub seats : List SendSeatView
 
--- what is left once so many executors have taken theirs
+-- the next are for the executor of this number
+abbrev pub is_next : {S : Type 0} → ℕ → ColumnView S → Bool
+is_next n c = option_map_or (λ next. next == n) (slice_get c.numbers 0) false
+
+-- what is left behind the next
+abbrev pub column_rest : {S : Type 0} → ColumnView S → ColumnView S
+column_rest c = record { numbers = drop 1 c.numbers; senders = drop 1 c.senders; seats = drop 1 c.seats }
+
+-- what is left once that executor has taken its own, if it has a way there
 abbrev pub column_after : {S : Type 0} → ℕ → ColumnView S → ColumnView S
-column_after n c = record { senders = drop n c.senders; seats = drop n c.seats }
+column_after n c = cond (is_next n c) (column_rest c) c
+
+-- what is left of all columns once so many executors have
+abbrev pub columns_after : {S : Type 0} → ℕ → List (ColumnView S) → List (ColumnView S)
+columns_after zero columns = columns
+columns_after (suc n) columns = map (column_after n) (columns_after n columns)
 
 module _ {M S T : Type 0} (ends : MailboxEnds M S T) where
   -- The taker and the owner's seat of an inbox with these senders. Nothing was taken, and nothing was closed.
@@ -80,17 +118,18 @@ module _ {M S T : Type 0} (ends : MailboxEnds M S T) where
     pub takes : ends.takes_of own.taker ≡ fresh_takes (lanes_of_senders senders)
     pub owner : own.owner ≡ new_owner_seat inbox.name
 
-  -- Senders of an inbox on these lanes, and as many seats. Nothing was sent, and nothing was admitted.
-  pub record IsColumn (inbox : InboxView M) (lanes : List (List Lane)) (c : ColumnView S) : Type 0 where
+  -- Senders of an inbox on the lanes of these ways, and as many seats. Nothing was sent, and nothing was admitted.
+  pub record IsColumn (inbox : InboxView M) (ways : List Way) (c : ColumnView S) : Type 0 where
+    pub numbers : c.numbers ≡ map (λ way. way.sender) ways
     pub senders : Each (ends.is_sender inbox.mailbox) c.senders
-    pub sends : map ends.sends_of c.senders ≡ map fresh_sends lanes
-    pub count : length c.seats ≡ length lanes
+    pub sends : map ends.sends_of c.senders ≡ map (λ way. fresh_sends way.lanes) ways
+    pub count : length c.seats ≡ length ways
     pub seats : All (λ s. s ≡ new_send_seat inbox.name s.number) c.seats
 
   -- So are the columns of all targets, once so many executors have taken theirs.
   pub record AreColumns (lanes : LaneTable) (n : ℕ) (inboxes : List (InboxView M)) (columns : List (ColumnView S)) : Type 0 where
     pub count : length columns ≡ length inboxes
-    pub each : (target : ℕ) (inbox : InboxView M) (c : ColumnView S) → slice_get inboxes target ≡ Some inbox → slice_get columns target ≡ Some c → IsColumn inbox (drop n (lanes_to lanes target)) c
+    pub each : (target : ℕ) (inbox : InboxView M) (c : ColumnView S) → slice_get inboxes target ≡ Some inbox → slice_get columns target ≡ Some c → IsColumn inbox (ways_from target n (drop n (lanes_to lanes target))) c
 
   -- The inboxes of the first of all targets, what their executors have of them, and their columns, of which nothing was taken.
   pub record AreOpened (lanes : LaneTable) (inboxes : List (InboxView M)) (all : List (OwnView T)) (columns : List (ColumnView S)) : Type 0 where
@@ -140,13 +179,25 @@ module _ {M S T : Type 0} (ends : MailboxEnds M S T) where
     pub senders : Each (ends.is_sender inbox.mailbox) c.senders
     pub seats : All (λ s. s.name ≡ inbox.name) c.seats
 
-  -- So it is with the column of each inbox.
-  abbrev pub AllCanSend : List (InboxView M) → List (ColumnView S) → Type 0
-  AllCanSend inboxes columns = (target : ℕ) (inbox : InboxView M) (c : ColumnView S) → slice_get inboxes target ≡ Some inbox → slice_get columns target ≡ Some c → CanSend inbox c
+  -- So it is with the column of each inbox where the next are for the executor of this number.
+  abbrev pub AllCanSend : List (InboxView M) → ℕ → List (ColumnView S) → Type 0
+  AllCanSend inboxes n columns = (target : ℕ) (inbox : InboxView M) (c : ColumnView S) → slice_get inboxes target ≡ Some inbox → slice_get columns target ≡ Some c → is_next n c ≡ true → CanSend inbox c
 
   -- an outbox has the next sender and the next seat of a column
   abbrev pub HasNext : ColumnView S → OutboxView → Type 0
   HasNext c b = (slice_get (map ends.sends_of c.senders) 0 ≡ Some b.sends) × (slice_get c.seats 0 ≡ Some b.seat)
+
+  -- The ways of the executor of this number to the first of all targets, in their order: one by each column whose next are for it,
+  -- with the places that are reserved for that target; and by target the number of the way there.
+  pub record HasWays (number : ℕ) (columns : List (ColumnView S)) (reserved : List ℕ) (count : ℕ) (numbers : List ℕ) (outboxes : List OutboxView) (places : List ℕ) : Type 0 where
+    pub targets : List ℕ
+    pub few : length targets ≤ count
+    pub numbers_count : length numbers ≡ count
+    pub outboxes_count : length targets ≡ length outboxes
+    pub places_count : length targets ≡ length places
+    pub ways : (target : ℕ) (c : ColumnView S) → target < count → slice_get columns target ≡ Some c → is_next number c ≡ true → (way : ℕ) × (slice_get numbers target ≡ Some way) × (slice_get targets way ≡ Some target)
+    pub each : (way target : ℕ) (b : OutboxView) → slice_get targets way ≡ Some target → slice_get outboxes way ≡ Some b → (c : ColumnView S) × (slice_get columns target ≡ Some c) × (is_next number c ≡ true) × HasNext c b
+    pub placed : (way target p : ℕ) → slice_get targets way ≡ Some target → slice_get places way ≡ Some p → slice_get reserved target ≡ Some p
 
 -- An executor before its first turn: nothing waits for others, nothing was taken, and its queue is accepting.
 pub record IsFirst {N : Type 0} (number : ℕ) (e : ExecutorView N) : Type 0 where

@@ -8,7 +8,7 @@ use Rattle.pl_context.specs.TailViews.{TailView}
 use Rattle.pl_head.specs.Marks.{Change}
 use Rattle.pl_head.specs.Writes.{out}
 use Rattle.pl_head.specs.Transports.{TransportState}
-use Rattle.pl_head.specs.HeadStand.{HeadView, HeadStandsAfter, is_idle}
+use Rattle.pl_head.specs.HeadStand.{HeadView, HeadStandsAfter, gone_of, is_idle}
 use Rattle.pl_part.specs.HeadHolds.{HeadHolds}
 use Rattle.pl_part.specs.Parts.{ChannelPartView}
 use Rattle.pl_part.specs.TailHolds.{TailHolds}
@@ -55,6 +55,7 @@ pub record IsLeftTail (plan : Plan) (c : ℕ) (p : ChannelPlan) (tail : TailView
   pub holds : TailHolds (world_of true plan) tail
   pub channel : tail.channel ≡ c
   pub at : tail.hop ≡ tail_hop p
+  pub handed : tail.handed ≡ 0
   pub over : is_over tail.standing ≡ true
 
 -- So does its head, which has no read step and no flushed byte left, and keeps the plan.
@@ -62,6 +63,7 @@ pub record IsLeftHead {T : Type 0} (state : T → TransportState) (plan : Plan) 
   pub holds : HeadHolds state (world_of true plan) head
   pub channel : head.channel ≡ c
   pub at : head.hop ≡ planned_head_hop p
+  pub gone : gone_of head ≡ (0, false)
   pub over : (is_over head.standing || is_some head.failure) ≡ true
   pub written : (ys zs : List Event) (sizes : List Change) → HeadStandsAfter state head ys zs sizes → is_idle state head ys ≡ true
   pub read : head.input.port.is_open ≡ false

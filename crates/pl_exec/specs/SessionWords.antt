@@ -103,9 +103,9 @@ with_sights readers row = each_with with_sight readers row
 
 -- ---- calls
 
--- the head's seat once it was told what is pending, and whether the channel is unwritable
-abbrev pub told : HeadSeatView → ℕ → Bool → HeadSeatView
-told s pending unwritable = if is_news s pending unwritable then record s { sets = s.sets + 1; pending = pending; unwritable = unwritable } else s
+-- the head's seat once the mark was set to what is pending, and to whether the channel is unwritable
+abbrev pub with_mark : HeadSeatView → ℕ → Bool → HeadSeatView
+with_mark s pending unwritable = if is_news s pending unwritable then record s { sets = s.sets + 1; pending = pending; unwritable = unwritable } else s
 
 -- One look at a channel's mark (Channel.isWritable). It is by the reader's seat of that channel. The other seats
 -- stay.

@@ -7,7 +7,7 @@ use Rattle.pl_event.specs.Worlds.{World}
 use Rattle.pl_head.specs.Transports.{TransportState}
 use Rattle.pl_part.specs.Parts.{ChannelPartView}
 use Rattle.pl_channel.specs.Lanes.{world_of}
-use Rattle.pl_channel.specs.Placing.{ArePlaced}
+use Rattle.pl_channel.specs.WholeParts.{AreWholeParts}
 use Rattle.pl_world.specs.declared.limits.TheConstants.{MAX_CAPACITY, MAX_CHANNELS}
 use Rattle.pl_world.specs.declared.session.Recorded.{Recorded}
 use Rattle.pl_world.specs.Plans.{Plan, channel_planned, planned}
@@ -29,7 +29,7 @@ pub record IsRunOf {S T : Type 0} (meaning : S → Meaning) (state : T → Trans
 pub record AreReady {S T : Type 0} (meaning : S → Meaning) (stands_after : S → List Event → Type 0) (state : T → TransportState) (plan : Plan) (parts : List (ChannelPartView S T)) : Type 0 where
   pub recorded : List (Recorded S T)
   pub planned : plan.channels ≡ map (channel_planned meaning state) recorded
-  pub placed : ArePlaced meaning stands_after state recorded parts
+  pub placed : AreWholeParts meaning stands_after state recorded parts
   pub ruled : IsPlan plan
   pub small : IsSmallPlan plan
   pub channels : length recorded ≤ MAX_CHANNELS

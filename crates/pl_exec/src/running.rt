@@ -18,7 +18,7 @@ use crate::planned::Planned;
 use crate::reporting::report_of;
 use crate::sharing::{channels_on, places, shares};
 use crate::words::{HeadSeats, Seats, Words};
-use pl_channel::placed;
+use pl_channel::whole_parts;
 use pl_event::{Lane, Stage};
 use pl_head::{MemoryTransport, Transport};
 use pl_part::ChannelPart;
@@ -49,7 +49,7 @@ pub fn run<G: Gate + Sync, R: Threads + Wait + Sync>(
     gate: &G,
 ) -> Result<Report, RunFault>
     ensures report { IfOk result (λ report. IsRunReport (plan_of ⟦<Handler as Stage>⟧.meaning ⟦<MemoryTransport as Transport>⟧.state session) report) }
-    // The gate was told of the first turn of each executor.
+    // The gate was entered at the first turn of each executor.
     ensures entered { IfOk result (λ _. (e : ℕ) → e < session.world.executors → G.was_entered gate.now e 0) }
 {
     let Session { world, capacity } = session;
@@ -73,7 +73,7 @@ pub fn run_with<G: Gate + Sync, R: Threads + Wait + Sync>(
     requires seats { AreHeadSeatsOf words.now seats }
     requires marks { HaveMarksOf seats session.world.channels }
     ensures report { IfOk result (λ report. IsRunReport (plan_of ⟦<Handler as Stage>⟧.meaning ⟦<MemoryTransport as Transport>⟧.state session) report) }
-    // The gate was told of the first turn of each executor.
+    // The gate was entered at the first turn of each executor.
     ensures entered { IfOk result (λ _. (e : ℕ) → e < session.world.executors → G.was_entered gate.now e 0) }
 {
     let Session { world, capacity } = session;
@@ -184,7 +184,7 @@ where
         seats,
     } = setting;
     let count = world.executors() as usize;
-    let parts = placed(alloc, world.into_channels().into_vec())?;
+    let parts = whole_parts(alloc, world.into_channels().into_vec())?;
     let channels = parts.len();
     let (nodes, places, lanes) = share_out::<W, S, T>(alloc, words, seats, parts, count)?;
     let (inboxes, ends, columns) = open_all::<W, M>(alloc, lanes, capacity as usize)?;

@@ -4,7 +4,7 @@ ghost use Rattle.std.specs.Prelude.{◌≡◌, ◌-◌, ◌<◌, [], Some, false
 ghost use Rattle.pl_head.specs.HeadStand.{HeadView};
 ghost use Rattle.pl_part.specs.Told.{IsTold, part_untold};
 ghost use Rattle.pl_exec.specs.ExecutorNodes.{AreInOrder, NodesStand, channel_parts};
-ghost use Rattle.pl_exec.specs.SessionWords.{AreSeatsOf, TriesEach, told};
+ghost use Rattle.pl_exec.specs.SessionWords.{AreSeatsOf, TriesEach, with_mark};
 ghost use Rattle.pl_exec.specs.Telling.{AreSeated, AreToldAt, CanTell, KeepsOthers, SettlesAt, Tells, TellsAt, channel_seats, part_outcomes};
 
 use crate::nodes::ExecutorNodes;
@@ -56,7 +56,7 @@ fn tell<S: Stage, T: Transport>(
 )
     requires { CanTell S.meaning S.stands_after T.state words.now channel seats.old part.old }
     ensures own { AreSeatsOf words.now channel seats.new }
-    ensures mark { (h : HeadView T) → part.old.head ≡ Some h → seats.new.mark ≡ told seats.old.mark h.buffer.pending h.buffer.is_unwritable }
+    ensures mark { (h : HeadView T) → part.old.head ≡ Some h → seats.new.mark ≡ with_mark seats.old.mark h.buffer.pending h.buffer.is_unwritable }
     ensures same { (seats.new.mark.low ≡ seats.old.mark.low) × (seats.new.mark.high ≡ seats.old.mark.high) }
     ensures told { IsTold part.old part.new }
     ensures all { part_untold part.new ≡ [] }
@@ -76,14 +76,14 @@ fn set_mark<S: Stage, T: Transport>(
 )
     requires { CanTell S.meaning S.stands_after T.state words.now channel seats.old part.now }
     ensures own { AreSeatsOf words.now channel seats.new }
-    ensures mark { (h : HeadView T) → part.now.head ≡ Some h → seats.new.mark ≡ told seats.old.mark h.buffer.pending h.buffer.is_unwritable }
+    ensures mark { (h : HeadView T) → part.now.head ≡ Some h → seats.new.mark ≡ with_mark seats.old.mark h.buffer.pending h.buffer.is_unwritable }
     ensures same { (seats.new.mark.low ≡ seats.old.mark.low) × (seats.new.mark.high ≡ seats.old.mark.high) }
     ensures settle { seats.new.settle ≡ seats.old.settle }
     ensures says { (h : HeadView T) → part.now.head ≡ Some h → seats.new.mark.sets < MAX_SETS - 1
         → (seats.new.mark.pending ≡ h.buffer.pending) × (seats.new.mark.unwritable ≡ h.buffer.is_unwritable) }
 {
     if let Some((pending, is_writable)) = part.mark() {
-        words.tell_mark(channel, seats, pending, is_writable);
+        words.set_mark(channel, seats, pending, is_writable);
     }
 }
 

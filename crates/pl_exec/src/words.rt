@@ -7,7 +7,7 @@ ghost use Rattle.pl_words.specs.PromiseRule.{at};
 ghost use Rattle.pl_words.specs.PromiseViews.{Settles, Meets};
 ghost use Rattle.pl_words.specs.declared.watermark.TheConstants.{MAX_SETS};
 ghost use Rattle.pl_words.specs.Watermarks.{IsMarked};
-ghost use Rattle.pl_exec.specs.SessionWords.{AreSeatsOf, AreHeadSeatsOf, AreUnused, HaveMarksOf, IsReaderOf, new_seats, new_head_seats, new_sight, new_sights, with_sights, told, LooksAt, PeeksAt};
+ghost use Rattle.pl_exec.specs.SessionWords.{AreSeatsOf, AreHeadSeatsOf, AreUnused, HaveMarksOf, IsReaderOf, new_seats, new_head_seats, new_sight, new_sights, with_sights, with_mark, LooksAt, PeeksAt};
 
 use pl_event::{Outcome, Stage};
 use pl_head::Transport;
@@ -306,7 +306,7 @@ impl Words {
 
     /// Sets a channel's mark to the bytes that are pending now, and to whether the channel is writable. It is not set where
     /// it was set so last, nor once it was set `MAX_SETS - 1` times.
-    pub(crate) fn tell_mark(
+    pub(crate) fn set_mark(
         &self,
         channel: usize,
         seats: &mut Seats,
@@ -316,7 +316,7 @@ impl Words {
         requires own { AreSeatsOf self.now channel seats.old }
         requires marked { IsMarked seats.old.mark.low seats.old.mark.high pending (not is_writable) }
         ensures own { AreSeatsOf self.now channel seats.new }
-        ensures mark { seats.new.mark ≡ told seats.old.mark pending (not is_writable) }
+        ensures mark { seats.new.mark ≡ with_mark seats.old.mark pending (not is_writable) }
         ensures set { seats.old.mark.sets < MAX_SETS - 1 → (seats.new.mark.pending ≡ pending) × (seats.new.mark.unwritable ≡ not is_writable) }
         ensures later { seats.old.mark.sets ≤ seats.new.mark.sets }
         ensures settle { seats.new.settle ≡ seats.old.settle }

@@ -1,4 +1,4 @@
-//! What a gate is told of the turns of executors.
+//! At which turns of executors a gate is entered.
 
 use crate::sessions::{PING, decoded_apart, on_loops};
 use crate::words_tests::assert_same;
@@ -142,7 +142,7 @@ fn gate_needs_two_threads(rt: HostRuntime) -> Result<(), Fail> {
 }
 
 #[test]
-fn turns_are_told_in_order(rt: HostRuntime) -> Result<(), Fail> {
+fn turns_are_entered_in_order(rt: HostRuntime) -> Result<(), Fail> {
     let session = decoded_apart(rt.alloc(), 1)?;
     for queue in QUEUES {
         let counting = Counting::default();

@@ -279,7 +279,7 @@ fn work_on_its_own_thread(rt: HostRuntime) -> Result<(), Fail> {
 /// The first turn of a loop reads the opening event, and the second the burst, which it answers and writes: while the gate
 /// has either, nothing of it has moved.
 #[test]
-fn gate_is_told_before_a_turn_moves(rt: HostRuntime) -> Result<(), Fail> {
+fn gate_is_entered_before_a_turn_moves(rt: HostRuntime) -> Result<(), Fail> {
     let session = on_loops(rt.alloc(), &[PING])?;
     for turn in 0..2 {
         seen_over_both(&rt, rt.alloc(), session.as_str(), 1, Holds::Turn(0, turn))?;

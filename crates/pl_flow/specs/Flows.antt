@@ -27,7 +27,7 @@ after x = point (x.number + 1) (closes x.item)
 abbrev pub on : Lane → List Envelope → List Envelope
 on lane items = filter (is_on lane) items
 
--- An item that may stand at its place. It fits the world, and its number is small.
+-- An item that may stand at its number. It fits the world, and its number is small.
 pub record IsGood (world : World) (x : Envelope) : Type 0 where
   pub fits : FitsWorld world x
   pub small : x.number < 2 ^ 32

@@ -95,8 +95,8 @@ accepts state may_refuse h t b before after bytes n none offers within accepted 
       fail_at = fail_at;
       within = λ k ys zs sizes e s. let same : n ≡ k = cc e in omega (arith, same, (offers ys sizes (stands ys zs sizes s)).1, within);
       full = λ k w ys zs sizes e s is. let same : n ≡ k = cc e in sym same ∙ full w is ∙ ap (λ (k : ℕ). min k w) (offers ys sizes (stands ys zs sizes s)).1;
-      told = λ k e. told;
-      untold = search rules;
+      fails_there = λ k e. told;
+      fails_else = search rules;
       waits = λ ys zs sizes s. waits_for h.failure (state h.transport).accepted h.buffer ys zs (is_over h.standing) sizes bytes _ none (λ e. cc e) (offers ys sizes) s;
       rests = λ failed. cc (failed, none);
       stood = λ ys zs sizes s. wrote_after h.failure n (state h.transport).accepted (state t).accepted h.buffer b ys zs (is_over h.standing) sizes none s (removed ys sizes (stands ys zs sizes s)).0;

@@ -7,7 +7,7 @@ use Rattle.pl_head.specs.declared.outbound_buffer.Entry.{Entry}
 use Rattle.pl_head.specs.WaitingMessages.{entry_numbers}
 use Rattle.pl_head.specs.Settling.{same_as, times, settled_at, open_at, Account}
 
-same_as-same : (n : ℕ) → same_as n n ≡ 1
+pub same_as-same : (n : ℕ) → same_as n n ≡ 1
 same_as-same zero = refl
 same_as-same (suc n) = same_as-same n
 

@@ -91,7 +91,7 @@ first_of n (Some b ∷ ws) h =
     }
 
 -- no message among these writes, so no bytes
-bytes_of-none : (n : ℕ) (ws : List (Option (List ℕ))) → length (entries_numbered n ws) ≡ 0 → bytes_of ws ≡ []
+pub bytes_of-none : (n : ℕ) (ws : List (Option (List ℕ))) → length (entries_numbered n ws) ≡ 0 → bytes_of ws ≡ []
 bytes_of-none n [] h = refl
 bytes_of-none n (None ∷ ws) h = bytes_of-none (n + 1) ws h
 bytes_of-none n (Some b ∷ ws) h = absurd (omega (arith, h))

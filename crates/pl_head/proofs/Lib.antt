@@ -12,6 +12,8 @@ pub mod HeadSteps
 pub mod Taking
 pub mod WaitingSizes
 pub mod BufferSteps
+pub mod Renumbering
+pub mod Forgetting
 pub mod Failing
 pub mod HeadAfter
 pub mod Accepting

@@ -1,13 +1,13 @@
 -- What contracts see of an outbound buffer, and the events and sizes after which it may stand.
-use Rattle.std.specs.Prelude.{◌≡◌, ◌⊎◌, ℕ, ◌-◌, ◌<◌, List, [], ◌∷◌, ◌++◌, length, drop, map, Bool, true, false, Option, Some, None, IsSome, if◌then◌else◌}
+use Rattle.std.specs.Prelude.{◌≡◌, ◌⊎◌, ℕ, ◌-◌, ◌<◌, List, [], ◌∷◌, ◌++◌, length, take, drop, map, Bool, true, false, ◌&&◌, ◌==◌, nat_lt, Option, Some, None, IsSome, if◌then◌else◌}
 use Rattle.pl_event.specs.declared.events.Event.{Event}
 use Rattle.pl_event.specs.declared.outcomes.Outcome.{Outcome}
 use Rattle.pl_context.specs.declared.ports.Port.{Port}
 use Rattle.pl_head.specs.declared.outbound_buffer.Entry.{Entry}
 use Rattle.pl_head.specs.Writes.{write_by, writes_by, is_flush, flushed_writes, unflushed_writes, late_outcome, out, outcomes}
 use Rattle.pl_head.specs.Failures.{settled_by}
-use Rattle.pl_head.specs.Settling.{GoesOn}
-use Rattle.pl_head.specs.WaitingMessages.{MessagesStand, first_size, entries_size, entry_numbers}
+use Rattle.pl_head.specs.Settling.{GoesOn, numbers_from}
+use Rattle.pl_head.specs.WaitingMessages.{MessagesStand, first_size, entries_size, entry_numbers, first_number, renumbered}
 use Rattle.pl_head.specs.Marks.{Change, Added, Removed}
 use Rattle.pl_head.specs.MarksStand.{Watermarks}
 
@@ -61,6 +61,26 @@ pub record BufferFailed (o : Outcome) (accepted : List ℕ) (b : OutboundBufferV
 -- much room there is, and whether writes get numbers, may differ.
 abbrev pub IsAsBefore : OutboundBufferView → OutboundBufferView → Type 0
 IsAsBefore b b' = b' ≡ record b { entries_room = b'.entries_room; outcomes_room = b'.outcomes_room; is_full = b'.is_full }
+
+-- how many writes come before the first that waits
+abbrev pub first_waiting : OutboundBufferView → ℕ
+first_waiting b = first_number b.entries (length b.outcomes)
+
+-- no flushed message waits, and the first write does not wait
+abbrev pub can_forget_writes : OutboundBufferView → Bool
+can_forget_writes b = (b.flushed == 0) && nat_lt 0 (first_waiting b)
+
+-- The writes before the first that waits, which are all settled, are forgotten, told or not: the others are counted from that
+-- one. The order of settling stays, and so does which of the others were told.
+abbrev pub ForgetsWrites : OutboundBufferView → OutboundBufferView → Type 0
+ForgetsWrites b b' =
+    b' ≡ record b {
+      entries = renumbered (first_waiting b) b.entries;
+      outcomes = drop (first_waiting b) b.outcomes;
+      outcomes_room = b'.outcomes_room;
+      settled = numbers_from (first_waiting b) b.settled;
+      told = length (numbers_from (first_waiting b) (take b.told b.settled));
+    }
 
 -- One call settles more writes after those before (ChannelPromise). Their numbers come in rising order, and no more
 -- are told.

@@ -1,11 +1,11 @@
 -- What a head does with the next item of its lane, in a read step, in a write, and when it is aborted.
-use Rattle.std.specs.Prelude.{◌≡◌, ◌≢◌, ◌↔◌, ℕ, ◌+◌, ◌≤◌, ◌++◌, ◌⊎◌, List, length, Bool, true, false, ◌||◌, ◌&&◌, is_some, Some, IsSome, None, min}
+use Rattle.std.specs.Prelude.{◌≡◌, ◌≢◌, ◌↔◌, ℕ, ◌+◌, ◌≤◌, ◌++◌, ◌⊎◌, List, [], length, Bool, true, false, ◌||◌, ◌&&◌, is_some, Some, IsSome, None, min}
 use Rattle.pl_event.specs.declared.events.Event.{Event}
 use Rattle.pl_event.specs.declared.envelopes.Envelope.{Envelope}
 use Rattle.pl_event.specs.declared.envelopes.Item.TheVariants as item
 use Rattle.pl_event.specs.Worlds.{closes}
 use Rattle.pl_event.specs.declared.outcomes.Cause.TheVariants.{Aborted}
-use Rattle.pl_context.specs.declared.standing.Standing.TheVariants as stands
+use Rattle.pl_context.specs.declared.standing.Standing.TheVariants as standings
 use Rattle.pl_context.specs.declared.standing.Took.{Took}
 use Rattle.pl_context.specs.declared.standing.Took.TheVariants as took
 use Rattle.pl_context.specs.OutputsViews.{OutputsView, PutsAll}
@@ -16,10 +16,10 @@ use Rattle.pl_head.specs.declared.heads.OutStep.TheVariants as step
 use Rattle.pl_head.specs.declared.heads.ReadStep.{ReadStep}
 use Rattle.pl_head.specs.declared.heads.ReadStep.TheVariants as reading
 use Rattle.pl_head.specs.Marks.{Change}
-use Rattle.pl_head.specs.Writes.{bytes_offered, flushed_writes}
-use Rattle.pl_head.specs.Buffers.{SameMarks, SettlesMore, StopsNumbers, LacksRoom}
+use Rattle.pl_head.specs.Writes.{HasLeft, bytes_offered, flushed_writes}
+use Rattle.pl_head.specs.Buffers.{SameMarks, SettlesMore, StopsNumbers, LacksRoom, ForgetsWrites}
 use Rattle.pl_head.specs.MarksStand.{SendsFlags}
-use Rattle.pl_head.specs.Transports.{TransportState, one_call_more, FailsNext}
+use Rattle.pl_head.specs.Transports.{TransportState, drained, one_call_more, FailsNext}
 use Rattle.pl_head.specs.ReadSteps.{entrance, bursts_read, has_step, read_items, brings_failure, brings_abort, next_step_items, steps_after}
 use Rattle.pl_head.specs.HeadStand.{HeadView, HeadStandsAfter, ReadsStand, Aborts, lane_over, Answers, read_answer, is_read_held, is_idle, waiting_at, events_before, events_from, item_sizes, step_sizes, standing_after, cause_of_item, cause_of_step, first_cause, HasFewFlags}
 
@@ -36,10 +36,10 @@ module _ {T : Type 0} (state : T → TransportState) where
         → SendsFlags h.buffer.low h.buffer.high sizes
         (item_sizes (is_some h.failure) e.item answer (waiting_at state h ys) (waiting_at state h' (ys ++ events_before (is_some h.failure) e.item answer)))
         h.buffer.flags before h'.buffer.flags after
-    pub refused : h.standing ≡ stands.Open → (event : Event) → e.item ≡ item.Event event → answer ≢ took.Ran → LacksRoom event h.buffer
+    pub refused : h.standing ≡ standings.Open → (event : Event) → e.item ≡ item.Event event → answer ≢ took.Ran → LacksRoom event h.buffer
     pub stops : StopsNumbers h.buffer h'.buffer
-    pub failure : h.standing ≡ stands.Open → h'.failure ≡ first_cause h.failure (cause_of_item e.item answer)
-    pub standing : h.standing ≡ stands.Open → h'.standing ≡ standing_after (is_some h.failure) e.item
+    pub failure : h.standing ≡ standings.Open → h'.failure ≡ first_cause h.failure (cause_of_item e.item answer)
+    pub standing : h.standing ≡ standings.Open → h'.standing ≡ standing_after (is_some h.failure) e.item
     pub closed : lane_over h ≡ false → h'.is_closed ≡ (is_some h.failure && closes e.item)
     pub over : lane_over h ≡ true → (answer ≡ took.Ran) × (h' ≡ record h { taken = h'.taken }) × (after ≡ before)
     pub same : h' ≡ record h { taken = h'.taken; standing = h'.standing; failure = h'.failure; is_closed = h'.is_closed; buffer = h'.buffer }
@@ -85,8 +85,8 @@ module _ {T : Type 0} (state : T → TransportState) where
         → n ≤ bytes_offered 0 (length (state h.transport).accepted) (flushed_writes ys)
     pub full : (n w : ℕ) (ys zs : List Event) (sizes : List Change) → answer ≡ step.Wrote n → HeadStandsAfter state h ys zs sizes
         → (state h.transport).window ≡ Some w → n ≡ min (bytes_offered 0 (length (state h.transport).accepted) (flushed_writes ys)) w
-    pub told : (n : ℕ) → answer ≡ step.Wrote n → FailsNext (state h.transport) → ⊥
-    pub untold : (ys zs : List Event) (sizes : List Change) → answer ≡ step.Failed → HeadStandsAfter state h ys zs sizes
+    pub fails_there : (n : ℕ) → answer ≡ step.Wrote n → FailsNext (state h.transport) → ⊥
+    pub fails_else : (ys zs : List Event) (sizes : List Change) → answer ≡ step.Failed → HeadStandsAfter state h ys zs sizes
         → FailsNext (state h.transport) ⊎ may_refuse h.transport (bytes_offered 0 (length (state h.transport).accepted) (flushed_writes ys))
     pub waits : (ys zs : List Event) (sizes : List Change) → HeadStandsAfter state h ys zs sizes → (answer ≡ step.Idle) ↔ (is_idle state h ys ≡ true)
     pub rests : IsSome h.failure → answer ≡ step.Idle
@@ -111,3 +111,15 @@ module _ {T : Type 0} (state : T → TransportState) where
     pub marks : SameMarks h.buffer h'.buffer
     pub settles : SettlesMore h.buffer h'.buffer
     pub few : HasFewFlags h'
+
+  -- It forgets what it took before the first write that waits. No byte of that waits, and what was accepted of it has left its
+  -- transport; from here on it stands as one that has taken the rest alone. Its marks, its flags and its reads are as they were.
+  pub record HeadForgets (h h' : HeadView T) : Type 0 where
+    pub stood : (ys zs : List Event) (sizes : List Change) → HeadStandsAfter state h ys zs sizes
+        → (zs ≡ []) × (first left : List Event) × (first ++ left ≡ ys) × HasLeft (state h.transport).accepted first × HeadStandsAfter state h' left [] sizes
+    pub unfailed : h.failure ≡ None
+    pub is_open : lane_over h ≡ false
+    pub transport : state h'.transport ≡ drained (state h.transport)
+    pub writes : ForgetsWrites h.buffer h'.buffer
+    pub gone : h'.gone ≡ h.gone + length (state h.transport).accepted
+    pub same : h' ≡ record h { transport = h'.transport; buffer = h'.buffer; gone = h'.gone; has_forgotten = true }

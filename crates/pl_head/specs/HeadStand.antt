@@ -10,7 +10,7 @@ use Rattle.pl_event.specs.declared.outcomes.Cause.{Cause}
 use Rattle.pl_event.specs.declared.outcomes.Cause.TheVariants.{Memory, Transport, Aborted}
 use Rattle.pl_event.specs.declared.outcomes.Outcome.{Outcome}
 use Rattle.pl_context.specs.declared.standing.Standing.{Standing}
-use Rattle.pl_context.specs.declared.standing.Standing.TheVariants as stands
+use Rattle.pl_context.specs.declared.standing.Standing.TheVariants as standings
 use Rattle.pl_context.specs.declared.standing.Took.{Took}
 use Rattle.pl_context.specs.declared.standing.Took.TheVariants as took
 use Rattle.pl_context.specs.Standings.{is_over, cause_of}
@@ -27,14 +27,14 @@ use Rattle.pl_head.specs.Transports.{TransportState}
 use Rattle.pl_head.specs.MarksStand.{SendsFlags}
 use Rattle.pl_head.specs.Failures.{failure_outcome, AreOutcomes}
 use Rattle.pl_head.specs.Settling.{AreSettled}
-use Rattle.pl_head.specs.Buffers.{OutboundBufferView, BufferStands, BufferFailed, event_sizes}
+use Rattle.pl_head.specs.Buffers.{OutboundBufferView, BufferStands, BufferFailed, can_forget_writes, event_sizes}
 use Rattle.pl_head.specs.ReadSteps.{entrance, is_burst, bursts_read}
 use Rattle.pl_head.specs.InputStand.{InputView, InputStands, failed_input, fed_input}
 use Rattle.pl_event.specs.declared.limits.TheConstants.{MAX_ITEMS}
 
 -- The end of a channel at its transport (ChannelPipeline). It has how many items of its lane it has taken, how that
 -- lane ended, why the head failed by itself, whether the lane has ended or failed since then, what waits to be
--- written, and what is left to read.
+-- written, what is left to read, how many bytes of its output are gone, and whether it has forgotten some of what it took.
 pub record HeadView (T : Type 0) : Type 0 where
   pub transport : T
   pub channel : ℕ
@@ -45,6 +45,8 @@ pub record HeadView (T : Type 0) : Type 0 where
   pub is_closed : Bool
   pub buffer : OutboundBufferView
   pub input : InputView
+  pub gone : ℕ
+  pub has_forgotten : Bool
 
 -- the buffer of a head that has failed by itself for this cause, or not
 abbrev pub BufferAfter : Option Cause → List ℕ → OutboundBufferView → List Event → List Event → Bool → List Change → Type 0
@@ -90,6 +92,15 @@ read_answer left held = if left then (if held then reads.Held else reads.Gave) e
 abbrev pub lane_over : {T : Type 0} → HeadView T → Bool
 lane_over h = is_over h.standing || h.is_closed
 
+-- what of its output is gone, and whether it has forgotten anything
+abbrev pub gone_of : {T : Type 0} → HeadView T → ℕ × Bool
+gone_of h = (h.gone, h.has_forgotten)
+
+-- A head can forget some of what it took. Its lane is open, it has not failed by itself, no flushed message waits, and the
+-- first write does not wait.
+abbrev pub can_forget : {T : Type 0} → HeadView T → Bool
+can_forget h = not (is_over h.standing || is_some h.failure) && can_forget_writes h.buffer
+
 -- a lane enters the head
 abbrev pub EntersHead : {T : Type 0} → HeadView T → Lane → Type 0
 EntersHead h lane = lane ≡ data_lane h.channel h.hop
@@ -127,10 +138,10 @@ item_sizes has_failed (item.Flag v) answer before after = []
 
 -- How an open lane stands after an item. A head that has failed by itself notes no end of it here.
 abbrev pub standing_after : Bool → Item → Standing
-standing_after has_failed (item.Event e) = stands.Open
-standing_after has_failed item.End = if has_failed then stands.Open else stands.Ended
-standing_after has_failed (item.Fail c) = if has_failed then stands.Open else stands.Failed c
-standing_after has_failed (item.Flag v) = stands.Open
+standing_after has_failed (item.Event e) = standings.Open
+standing_after has_failed item.End = if has_failed then standings.Open else standings.Ended
+standing_after has_failed (item.Fail c) = if has_failed then standings.Open else standings.Failed c
+standing_after has_failed (item.Flag v) = standings.Open
 
 -- What a head answers to an item. Its lane is open: an event runs, or memory runs out for it where the head has not
 -- failed before. (A flag does not stand on its lane, and nothing comes of it.)

@@ -1,5 +1,5 @@
 -- In which order writes are settled: the numbers of those that have an outcome, each once.
-use Rattle.std.specs.Prelude.{◌≡◌, ℕ, zero, suc, ◌+◌, List, [], ◌∷◌, ◌++◌, length, Option, Some, None}
+use Rattle.std.specs.Prelude.{◌≡◌, ℕ, zero, suc, ◌+◌, ◌-◌, List, [], ◌∷◌, ◌++◌, length, Option, Some, None, if◌then◌else◌, nat_le}
 use Rattle.std.specs.List.Sorted.{IsStrictlyIncreasing}
 use Rattle.pl_event.specs.declared.outcomes.Outcome.{Outcome}
 
@@ -14,6 +14,11 @@ same_as (suc n) (suc k) = same_as n k
 abbrev pub times : ℕ → List ℕ → ℕ
 times n [] = 0
 times n (k ∷ ks) = same_as n k + times n ks
+
+-- the numbers from this one on, counted from it
+abbrev pub numbers_from : ℕ → List ℕ → List ℕ
+numbers_from first [] = []
+numbers_from first (n ∷ ns) = if nat_le first n then (n - first) ∷ numbers_from first ns else numbers_from first ns
 
 -- 1 where write n has an outcome, else 0
 abbrev pub settled_at : ℕ → List (Option Outcome) → ℕ

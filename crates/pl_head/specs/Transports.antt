@@ -15,6 +15,10 @@ pub record TransportState : Type 0 where
 abbrev pub new_state : Option ℕ → Option ℕ → TransportState
 new_state window fail_at = record { accepted = []; calls = 0; failures = 0; window = window; fail_at = fail_at }
 
+-- a transport whose bytes have left it
+abbrev pub drained : TransportState → TransportState
+drained s = record s { accepted = [] }
+
 -- one call more, up to the largest count
 abbrev pub one_call_more : ℕ → ℕ
 one_call_more n = min (n + 1) (2 ^ 64 - 1)

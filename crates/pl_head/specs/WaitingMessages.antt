@@ -1,5 +1,5 @@
 -- Messages that wait in a buffer.
-use Rattle.std.specs.Prelude.{slice_set, ◌≡◌, ℕ, ◌+◌, ◌≤◌, List, [], ◌∷◌, ◌++◌, length, drop, map, Bool, Option, Some, None, sum_by, if◌then◌else◌}
+use Rattle.std.specs.Prelude.{slice_set, ◌≡◌, ℕ, ◌+◌, ◌-◌, ◌≤◌, List, [], ◌∷◌, ◌++◌, length, drop, map, Bool, Option, Some, None, sum_by, if◌then◌else◌}
 use Rattle.pl_event.specs.declared.outcomes.Outcome.{Outcome}
 use Rattle.pl_event.specs.declared.outcomes.Outcome.TheVariants.{Success, Unsupported}
 use Rattle.pl_head.specs.Writes.{bytes_of, waiting, unflushed_outcome}
@@ -41,6 +41,15 @@ pub record MessagesStand (entries : List Entry) (offset count : ℕ) (outcomes :
 -- the numbers of their writes
 abbrev pub entry_numbers : List Entry → List ℕ
 entry_numbers es = map (λ e. e.number) es
+
+-- the number of the first message; and where there is none, how many writes there are
+abbrev pub first_number : List Entry → ℕ → ℕ
+first_number [] writes = writes
+first_number (e ∷ es) writes = e.number
+
+-- messages whose writes are counted from this one
+abbrev pub renumbered : ℕ → List Entry → List Entry
+renumbered first es = map (λ (e : Entry). record e { number = e.number - first }) es
 
 -- the outcomes once these messages are settled by this one
 abbrev pub settled_all : Outcome → List Entry → List (Option Outcome) → List (Option Outcome)

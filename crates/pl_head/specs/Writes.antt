@@ -1,6 +1,6 @@
 -- Head outcome: what a list of events writes, what of it is flushed, and how each write ends (Netty:
 -- ChannelOutboundBuffer, ChannelPromise).
-use Rattle.std.specs.Prelude.{ℕ, ◌+◌, ◌-◌, List, [], ◌∷◌, ◌++◌, length, map, Bool, true, false, ◌||◌, if◌then◌else◌, nat_le, Option, Some, None}
+use Rattle.std.specs.Prelude.{◌≡◌, ℕ, ◌+◌, ◌-◌, List, [], ◌∷◌, ◌++◌, length, map, Bool, true, false, ◌||◌, if◌then◌else◌, nat_le, Option, Some, None}
 use Rattle.pl_event.specs.declared.events.Event.{Event}
 use Rattle.pl_event.specs.declared.events.Event.TheVariants.{Active, Read, ReadComplete, Caught, User, Write, Flush}
 use Rattle.pl_event.specs.declared.events.Message.TheVariants.{Bytes, Line, Command, Reply}
@@ -57,6 +57,11 @@ bytes_of (Some b ∷ ws) = b ++ bytes_of ws
 -- The flushed output (ChannelOutboundBuffer). It is the bytes of the writes before the last flush.
 abbrev pub out : List Event → List ℕ
 out ys = bytes_of (flushed_writes ys)
+
+-- No byte of these events waits: all are flushed, and are the bytes accepted.
+pub record HasLeft (accepted : List ℕ) (ys : List Event) : Type 0 where
+  pub output : accepted ≡ out ys
+  pub flushed : bytes_of (unflushed_writes ys) ≡ []
 
 -- The outcome of a flushed write, by where it ends in the output: a success once that many bytes were accepted.
 abbrev pub outcomes_from : ℕ → ℕ → List (Option (List ℕ)) → List (Option Outcome)

@@ -1,10 +1,10 @@
 //! The end of a channel at its transport.
 
-ghost use Rattle.std.specs.Prelude.{◌≡◌, ℕ, ◌+◌, ◌≤◌, ◌<◌, ◌↔◌, ◌≢◌, ◌∷◌, ◌++◌, ◌⊎◌, ◌&&◌, List, [], length, take, min, Bool, true, false, Option, Some, None, IsSome, IfSome, IfNone, IfOk, OnOk, OnErr, is_some, not, ◌||◌, slice_index_or};
+ghost use Rattle.std.specs.Prelude.{◌≡◌, ℕ, ◌+◌, ◌^◌, ◌≤◌, ◌<◌, ◌↔◌, ◌≢◌, ◌∷◌, ◌++◌, ◌⊎◌, ◌&&◌, List, [], length, take, min, Bool, true, false, Option, Some, None, IsSome, IsTrue, IfSome, IfNone, IfOk, OnOk, OnErr, is_some, not, ◌||◌, slice_index_or};
 ghost use Rattle.pl_event.specs.declared.events.Event.{Event};
 ghost use Rattle.pl_event.specs.declared.outcomes.Cause.TheVariants.{Aborted};
 ghost use Rattle.pl_event.specs.Inputs.{Bursts, recorded_input};
-ghost use Rattle.pl_context.specs.declared.standing.Standing.TheVariants as stands;
+ghost use Rattle.pl_context.specs.declared.standing.Standing.TheVariants as standings;
 ghost use Rattle.pl_context.specs.declared.standing.Took.TheVariants as took;
 ghost use Rattle.pl_context.specs.Standings.{is_over};
 ghost use Rattle.pl_context.specs.Stops.{HasPlaces};
@@ -19,13 +19,13 @@ ghost use Rattle.pl_event.specs.Hops.{flags_lane};
 ghost use Rattle.pl_event.specs.Worlds.{closes};
 ghost use Rattle.pl_head.specs.MarksStand.{SendsFlags};
 ghost use Rattle.pl_head.specs.Transports.{one_call_more, FailsNext};
-ghost use Rattle.pl_head.specs.HeadStand.{first_cause, fed_head};
+ghost use Rattle.pl_head.specs.HeadStand.{first_cause, fed_head, gone_of};
 ghost use Rattle.pl_head.specs.InputStand.{fed_plan, items_left, steps_left, takes_bursts};
 ghost use Rattle.pl_event.specs.declared.limits.TheConstants.{MAX_ITEMS};
 
 use crate::inputs::{Input, ReadPlan};
 use crate::outbound_buffer::OutboundBuffer;
-use crate::transports::Transport;
+use crate::transports::{Draining, Transport};
 use pl_context::{Outputs, Standing, Took};
 use pl_event::{ByteString, Cause, Element, Envelope, Event, Item, Kind, Lane, Outcome, Sequence};
 use std::alloc::{AllocError, Global};
@@ -67,6 +67,9 @@ pub struct Head<T> {
     is_closed: bool,
     buffer: OutboundBuffer,
     input: Input,
+    /// How many bytes of its output have left the transport, and are forgotten.
+    gone: usize,
+    has_forgotten: bool,
 }
 
 impl<T> Model for Head<T> {
@@ -76,7 +79,7 @@ impl<T> Model for Head<T> {
 
     ghost use Rattle.pl_head.specs.OutboundStand.{buffer_view};
 
-    ghost view = { λ h. record { transport = h.transport; channel = h.channel; hop = h.hop; taken = h.taken; standing = h.standing; failure = h.failure; is_closed = h.is_closed; buffer = buffer_view h.buffer; input = h.input } };
+    ghost view = { λ h. record { transport = h.transport; channel = h.channel; hop = h.hop; taken = h.taken; standing = h.standing; failure = h.failure; is_closed = h.is_closed; buffer = buffer_view h.buffer; input = h.input; gone = h.gone; has_forgotten = h.has_forgotten } };
 
     ghost invariant = { λ h. IsHead h.channel h.taken h.failure h.is_closed (buffer_view h.buffer) h.input };
 }
@@ -104,16 +107,17 @@ impl<T: Transport> Head<T> {
         ensures reads { ReadsStand input 0 false result }
         ensures entrance { result.input.port.lane ≡ entrance channel }
         ensures transport { result.transport ≡ transport }
-        ensures place { (result.channel ≡ channel) × (result.hop ≡ hop) }
+        ensures at_hop { (result.channel ≡ channel) × (result.hop ≡ hop) }
         ensures marks { (result.buffer.low ≡ low) × (result.buffer.high ≡ high) }
         ensures flags { result.buffer.flags ≡ record { lane = flags_lane channel 0; made = 0; is_open = true } }
         ensures taken { result.taken ≡ 0 }
-        ensures standing { result.standing ≡ stands.Open }
+        ensures standing { result.standing ≡ standings.Open }
         ensures failure { result.failure ≡ None }
         ensures closed { result.is_closed ≡ false }
         ensures numbering { result.buffer.is_full ≡ false }
         ensures told { (result.buffer.settled ≡ []) × (result.buffer.told ≡ 0) }
         ensures few { HasFewFlags result }
+        ensures gone { gone_of result ≡ (0, false) }
     {
         Head {
             transport,
@@ -125,6 +129,8 @@ impl<T: Transport> Head<T> {
             is_closed: false,
             buffer: OutboundBuffer::new(alloc, channel, low, high),
             input: Input::new(channel, input),
+            gone: 0,
+            has_forgotten: false,
         }
     }
 
@@ -190,7 +196,7 @@ impl<T: Transport> Head<T> {
     }
 
     /// Whether the next read step is a burst that is held.
-    fn is_held(&self) -> bool
+    pub fn is_held(&self) -> bool
         requires left { self.now.input.port.is_open ≡ true }
         ensures held { (p : ReadPlan) (reads : ℕ) (failed : Bool) (ys zs : List Event) (sizes : List Change) → ReadsStand p reads failed self.now → HeadStandsAfter T.state self.now ys zs sizes
             → result ≡ is_read_held T.state p reads self.now ys }
@@ -246,7 +252,7 @@ impl<T: Transport> Head<T> {
     /// Takes the next item of its lane, while that is open. What takes an item apart is kept out of what hands it on whole.
     #[inline(never)]
     fn take_open(&mut self, envelope: Envelope, outputs: &mut Outputs) -> Took
-        requires open { self.old.standing ≡ stands.Open }
+        requires open { self.old.standing ≡ standings.Open }
         requires not_closed { self.old.is_closed ≡ false }
         requires limit { self.old.taken < MAX_ITEMS }
         requires places { HasPlaces outputs.old.stopped (flags_lane self.old.channel 0 ∷ []) }
@@ -415,6 +421,13 @@ impl<T: Transport> Head<T> {
         self.transport.bytes()
     }
 
+    /// How many bytes of its output are gone: they left the transport, and are forgotten.
+    pub fn gone(&self) -> usize
+        ensures { result ≡ self.now.gone }
+    {
+        self.gone
+    }
+
     /// How many bytes the writes hold that have no outcome yet.
     pub fn pending(&self) -> u128
         // What was added less what was removed.
@@ -442,6 +455,23 @@ impl<T: Transport> Head<T> {
             → HasOutcomes T.state self.now ys zs result.now }
     {
         self.buffer.outcomes()
+    }
+
+    /// The numbers of the writes that have an outcome, in the order in which they were settled.
+    pub fn settled(&self) -> &[usize]
+        ensures view { result.now ≡ self.now.buffer.settled }
+
+        // The list has each write with an outcome, once.
+        ensures once { AreSettled result.now self.now.buffer.outcomes }
+    {
+        self.buffer.settled.as_slice()
+    }
+
+    /// Why it has failed by itself, or None.
+    pub fn failure(&self) -> Option<Cause>
+        ensures { result ≡ self.now.failure }
+    {
+        self.failure
     }
 
     /// Why it has failed: by itself, or else by the failure that it took. None where it has not failed.
@@ -510,6 +540,37 @@ impl<T: Transport> Head<T> {
         } = self;
         let bytes = transport.into_bytes(alloc)?;
         Ok((ByteString::from_vec(bytes), buffer.into_outcomes()))
+    }
+}
+
+impl<T: Draining> Head<T> {
+    ghost use Rattle.pl_head.specs.HeadCalls.{HeadForgets};
+    ghost use Rattle.pl_head.specs.HeadStand.{can_forget};
+
+    /// Forgets what it took before the first write that waits, where no flushed message waits, its lane is open and it has not
+    /// failed: the outcomes of those writes, told or not, and the bytes that its transport accepted, which leave it. The other writes
+    /// are counted from that one. It goes on as a head that has taken only what is left, but its counts, its marks and its reads stay.
+    /// False where it cannot, where there is no such write, and where so many bytes are gone that a `usize` does not count them:
+    /// nothing is changed. It takes no memory.
+    pub fn forget(&mut self) -> bool
+        ensures can { IsTrue result → can_forget self.old ≡ true }
+        ensures due { result ≡ false → (can_forget self.old ≡ false) ⊎ (2 ^ 64 ≤ self.old.gone + length (T.state self.old.transport).accepted) }
+        ensures forgets { IsTrue result → HeadForgets T.state self.old self.new }
+        ensures kept { result ≡ false → self.new ≡ self.old }
+    {
+        let Some(gone) = self.gone.checked_add(self.transport.bytes().len()) else {
+            return false;
+        };
+        if self.is_ended() {
+            return false;
+        }
+        if !self.buffer.forget() {
+            return false;
+        }
+        self.transport.drain();
+        self.gone = gone;
+        self.has_forgotten = true;
+        true
     }
 }
 

@@ -12,5 +12,5 @@ mod watermark_laws;
 pub use flag_laws::flag_law;
 pub use heads::{Head, OutStep, ReadStep};
 pub use inputs::ReadPlan;
-pub use transports::{MemoryTransport, Transport, TransportFault};
+pub use transports::{Draining, MemoryTransport, Transport, TransportFault};
 pub use watermark_laws::watermark_law;

@@ -1,6 +1,6 @@
 //! The messages that wait to be written, and what became of each write (Netty's `ChannelOutboundBuffer`).
 
-ghost use Rattle.std.specs.Prelude.{◌≡◌, ℕ, ◌+◌, ◌-◌, ◌<◌, ◌≤◌, ◌^◌, ◌↔◌, ◌⊎◌, ◌∷◌, ◌++◌, List, [], length, take, drop, map, Bool, true, false, Option, Some, None, IsTrue, IfSome, IfNone, OnSome, OnOk, OnErr, Err, not, nat_le, slice_index_or, vec_len, vec_capacity};
+ghost use Rattle.std.specs.Prelude.{◌≡◌, ℕ, ◌+◌, ◌-◌, ◌<◌, ◌≤◌, ◌^◌, ◌↔◌, ◌⊎◌, ◌∷◌, ◌++◌, List, [], All, length, take, drop, map, Bool, true, false, Option, Some, None, IsTrue, IfSome, IfNone, OnSome, OnOk, OnErr, Err, not, nat_le, slice_index, slice_index_or, vec_len, vec_capacity};
 ghost use Rattle.std.specs.Option.{option_to_list};
 ghost use Rattle.std.specs.List.Sorted.{IsStrictlyIncreasing};
 ghost use Rattle.std.specs.VecDeque.{deque_len, deque_capacity};
@@ -11,10 +11,10 @@ ghost use Rattle.pl_event.specs.declared.outcomes.Outcome.TheVariants.{Closed};
 ghost use Rattle.pl_event.specs.declared.envelopes.Lane.{Lane};
 ghost use Rattle.pl_event.specs.Hops.{flags_lane};
 ghost use Rattle.pl_context.specs.Stops.{HasPlaces, AreAmong};
-ghost use Rattle.pl_head.specs.Writes.{write_by, late_outcome, flushed_writes, out, outcomes, bytes_offered, waiting_bytes};
+ghost use Rattle.pl_head.specs.Writes.{write_by, late_outcome, flushed_writes, out, outcomes, bytes_offered, waiting_bytes, HasLeft};
 ghost use Rattle.pl_head.specs.Marks.{Change, Added, Removed, pending_after, sizes_added, removed_by, is_unwritable};
-ghost use Rattle.pl_head.specs.WaitingMessages.{settled_all, first_size, entries_size, entry_numbers};
-ghost use Rattle.pl_head.specs.Settling.{Account};
+ghost use Rattle.pl_head.specs.WaitingMessages.{settled_all, first_size, entries_size, entry_numbers, renumbered};
+ghost use Rattle.pl_head.specs.Settling.{Account, numbers_from};
 ghost use Rattle.pl_head.specs.Buffers.{event_sizes};
 ghost use Rattle.pl_head.specs.declared.outbound_buffer.Refusal.TheVariants.{Numbered, Unnumbered};
 
@@ -68,7 +68,7 @@ pub(crate) struct OutboundBuffer {
 
 impl OutboundBuffer {
     ghost use Rattle.pl_head.specs.MarksStand.{SendsFlags, flag_bound};
-    ghost use Rattle.pl_head.specs.Buffers.{BufferStands, BufferFailed, IsAsBefore, SameMarks, SettlesMore, SettlesFront, StopsNumbers, LacksRoom, untold};
+    ghost use Rattle.pl_head.specs.Buffers.{BufferStands, BufferFailed, IsAsBefore, SameMarks, SettlesMore, SettlesFront, StopsNumbers, LacksRoom, ForgetsWrites, can_forget_writes, first_waiting, untold};
     ghost use Rattle.pl_head.specs.OutboundStand.{buffer_view, BufferHolds, HasPlace, TakesOut};
 
     /// Nothing waits, and nothing was written. It takes no memory.
@@ -476,6 +476,41 @@ impl OutboundBuffer {
         }
     }
 
+    /// Forgets the writes before the first that waits, which are all settled: what is left is counted from that one. False where a
+    /// flushed message waits, or there is no such write: nothing is forgotten. It takes no memory.
+    pub(crate) fn forget(&mut self) -> bool
+        ensures can { result ≡ can_forget_writes (buffer_view self.old) }
+        ensures stands { IsTrue result → (accepted : List ℕ) (ys : List Event) (sizes : List Change) → BufferStands accepted (buffer_view self.old) ys false sizes
+            → (first left : List Event) × (first ++ left ≡ ys) × HasLeft accepted first × BufferStands [] (buffer_view self.new) left false sizes }
+        ensures forgets { IsTrue result → ForgetsWrites (buffer_view self.old) (buffer_view self.new) }
+        ensures kept { result ≡ false → self.new ≡ self.old }
+    {
+        if self.flushed > 0 {
+            return false;
+        }
+        let first = self.first_waiting();
+        if first == 0 {
+            return false;
+        }
+        self.told = count_from(self.settled.as_slice(), self.told, first);
+        keep_from(&mut self.settled, first);
+        drop_first(&mut self.outcomes, first);
+        renumber(&mut self.entries, first);
+        true
+    }
+
+    /// How many writes come before the first that waits.
+    fn first_waiting(&self) -> usize
+        ensures view { result ≡ first_waiting (buffer_view self.now) }
+        ensures within { result ≤ length self.now.outcomes.items }
+    {
+        if self.entries.is_empty() {
+            return self.outcomes.len();
+        }
+        let first = &self.entries[0];
+        first.number
+    }
+
     /// The outcome of each write.
     pub(crate) fn outcomes(&self) -> &[Option<Outcome>]
         ensures view { result.now ≡ (buffer_view self.now).outcomes }
@@ -522,6 +557,81 @@ fn settle_from(
         size += entry.bytes.len() as u128;
     }
     size
+}
+
+/// How many of the numbers up to a place are this one or more.
+fn count_from(numbers: &[usize], end: usize, first: usize) -> usize
+    requires within { end ≤ length numbers.now }
+    ensures { result ≡ length (numbers_from first (take end numbers.now)) }
+{
+    let mut count = 0;
+    for i in 0..end {
+        count += count_one(numbers[i], first);
+    }
+    count
+}
+
+/// 1 where a number is this one or more, else 0.
+fn count_one(number: usize, first: usize) -> usize
+    ensures { result ≡ length (numbers_from first (number ∷ [])) }
+{
+    if number < first {
+        return 0;
+    }
+    1
+}
+
+/// Keeps the numbers from this one on, counted from it.
+fn keep_from(numbers: &mut Vec<usize>, first: usize)
+    ensures items { numbers.new.items ≡ numbers_from first numbers.old.items }
+    ensures capacity { vec_capacity numbers.new ≡ vec_capacity numbers.old }
+{
+    let mut kept = 0;
+    for i in 0..numbers.len() {
+        kept = keep_one(numbers, kept, i, first);
+    }
+    numbers.truncate(kept);
+}
+
+/// Moves the number at a place behind those that were kept, where it is kept, and answers how many are.
+fn keep_one(numbers: &mut Vec<usize>, kept: usize, place: usize, first: usize) -> usize
+    requires before { kept ≤ place }
+    requires within { place < length numbers.old.items }
+    ensures most { result ≤ kept + 1 }
+    ensures kept { take result numbers.new.items ≡ take kept numbers.old.items ++ numbers_from first (slice_index numbers.old.items place ∷ []) }
+    ensures left { drop (place + 1) numbers.new.items ≡ drop (place + 1) numbers.old.items }
+    ensures length { length numbers.new.items ≡ length numbers.old.items }
+    ensures capacity { vec_capacity numbers.new ≡ vec_capacity numbers.old }
+{
+    let number = numbers[place];
+    if number < first {
+        return kept;
+    }
+    numbers[kept] = number - first;
+    kept + 1
+}
+
+/// Takes so many outcomes off the front.
+fn drop_first(outcomes: &mut Vec<Option<Outcome>>, count: usize)
+    requires within { count ≤ length outcomes.old.items }
+    ensures items { outcomes.new.items ≡ drop count outcomes.old.items }
+    ensures capacity { vec_capacity outcomes.new ≡ vec_capacity outcomes.old }
+{
+    let left = outcomes.len() - count;
+    outcomes.rotate_left(count);
+    outcomes.truncate(left);
+}
+
+/// Counts the writes of these messages from this one.
+fn renumber(entries: &mut VecDeque<Entry>, first: usize)
+    requires least { All (λ n. first ≤ n) (entry_numbers entries.old.items) }
+    ensures items { entries.new.items ≡ renumbered first entries.old.items }
+    ensures length { deque_len entries.new ≡ deque_len entries.old }
+    ensures capacity { deque_capacity entries.new ≡ deque_capacity entries.old }
+{
+    for i in 0..entries.len() {
+        entries[i].number -= first;
+    }
 }
 
 /// The outcome of the write that an event makes, if it makes one, where bytes are settled by this one before they are

@@ -1,7 +1,7 @@
 //! Where the bytes of a channel leave.
 
 ghost use Rattle.std.specs.Prelude.{◌≡◌, ℕ, ◌+◌, ◌≤◌, ◌↔◌, ◌++◌, ◌⊎◌, length, take, min, Option, Some, IfOk, OnOk, OnErr, IsOk, IsErr, IsTrue};
-ghost use Rattle.pl_head.specs.Transports.{TransportState, new_state, one_call_more, FailsNext, memory_state, accepted_count, MayRefuse};
+ghost use Rattle.pl_head.specs.Transports.{TransportState, new_state, drained, one_call_more, FailsNext, memory_state, accepted_count, MayRefuse};
 
 use std::alloc::{AllocError, Global};
 use std::marker::Model;
@@ -58,8 +58,8 @@ pub trait Transport: Drop {
         ensures full { IfOk result (λ n. (w : ℕ) → (state self.old).window ≡ Some w → n ≡ min (length bytes.now) w) }
 
         // It fails at the call that it was told to fail at, and else only where it may refuse.
-        ensures told { OnOk result (FailsNext (state self.old) → ⊥) }
-        ensures untold { OnErr result (FailsNext (state self.old) ⊎ may_refuse self.old (length bytes.now)) }
+        ensures fails_there { OnOk result (FailsNext (state self.old) → ⊥) }
+        ensures fails_else { OnErr result (FailsNext (state self.old) ⊎ may_refuse self.old (length bytes.now)) }
         ensures fail_at { (state self.new).fail_at ≡ (state self.old).fail_at };
 
     /// The bytes accepted so far.
@@ -75,6 +75,13 @@ pub trait Transport: Drop {
     {
         self.bytes().to_vec(alloc)
     }
+}
+
+/// A transport whose bytes are taken away, so that it does not keep them for ever.
+pub trait Draining: Transport {
+    /// The bytes accepted so far leave it: `bytes` gives those that it accepts from now on. All else stays.
+    fn drain(&mut self)
+        ensures { Self.state self.new ≡ drained (Self.state self.old) };
 }
 
 /// A transport over memory, which accepts a window of bytes a call, and may fail at one call.
@@ -146,8 +153,8 @@ impl Transport for MemoryTransport {
         ensures sound { OnOk result (self.new.failures ≡ self.old.failures) }
         ensures failed { OnErr result (self.new.failures ≡ one_call_more self.old.failures) }
         ensures count { IfOk result (λ n. n ≡ accepted_count self.old (length bytes.now)) }
-        ensures told { OnOk result (FailsNext (memory_state self.old) → ⊥) }
-        ensures untold { OnErr result (FailsNext (memory_state self.old) ⊎ MayRefuse self.old (length bytes.now)) }
+        ensures fails_there { OnOk result (FailsNext (memory_state self.old) → ⊥) }
+        ensures fails_else { OnErr result (FailsNext (memory_state self.old) ⊎ MayRefuse self.old (length bytes.now)) }
         ensures full { IfOk result (λ n. (w : ℕ) → Some self.old.window ≡ Some w → n ≡ min (length bytes.now) w) }
         ensures window { self.new.window ≡ self.old.window }
         ensures fail_at { self.new.fail_at ≡ self.old.fail_at }
@@ -175,5 +182,12 @@ impl Transport for MemoryTransport {
     {
         let MemoryTransport { bytes, .. } = self;
         Ok(bytes)
+    }
+}
+
+impl Draining for MemoryTransport {
+    /// Its room stays. It takes no memory.
+    fn drain(&mut self) {
+        self.bytes.clear();
     }
 }

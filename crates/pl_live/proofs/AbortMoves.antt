@@ -31,7 +31,7 @@ use Rattle.pl_world.specs.Plans.{ChannelPlan}
 use Rattle.pl_live.specs.LiveStand.{GoesByPlan, LiveView, LiveStands, ReadsFed, head_in, may_take, parts_of}
 use Rattle.pl_live.proofs.Followed.{IsHeadFed, goes-same}
 use Rattle.pl_live.proofs.Meant.{path-means}
-use Rattle.pl_live.proofs.Moved.{Ran, accepted-at, has-moved, head-in, recorded-at, stands-moved}
+use Rattle.pl_live.proofs.Moved.{Ran, accepted-at, has-moved, head-in, stands-moved}
 
 -- ---- a head
 
@@ -133,24 +133,19 @@ module _ {S T : Type 0} (meaning : S → Meaning) (stands_after : S → List Eve
     pub failed : (h : HeadView T) → head_in stations'.nodes.parts.items ≡ Some h → is_some h.failure ≡ true
     pub closed : may_take (record live { stations = stations' }) ≡ false
 
-  pub is-aborted : (p : ChannelPlan) (live : LiveView S T) (s : LiveStands meaning stands_after state p live) (stations' : Stations (Channels S T)) → Aborts live stations' → stations'.work.items ≡ [] → vec_len stations'.executors ≡ vec_len live.stations.executors → IsAborted p live stations'
+  pub is-aborted : (p : ChannelPlan) (live : LiveView S T) (s : LiveStands meaning stands_after state p live) (stations' : Stations (Channels S T)) → Aborts live stations' → stations'.work.items ≡ [] → vec_len stations'.stations ≡ vec_len live.stations.stations → IsAborted p live stations'
   is-aborted p live s stations' runs rests count =
       let part = s.goes.part in
       let alone = s.goes.is_alone in
       let own = some-of part.head s.goes.by_plan.has_head in
-      let last = some-of part.path.tail s.goes.by_plan.has_tail in
       let m = has-moved meaning stands_after is_spent state p live s aborts stations' (ran live stations' runs) rests count in
       let r = aborts-go meaning stands_after state p live.ends part m.then live.stations.work m.after m.same s.goes.by_plan m.moved in
       let on = m.settles r.goes in
       let now = on.3.head r.h' r.is in
-      let ended = on.3.tail last.0 (ap (λ (path : _). path.tail) r.path ∙ last.1) in
-      let longer = ended.2 in
-      let record-was = ap (λ (l : List Event). length l) (recorded-at part (parts_of live) alone last.0 last.1) in
-      let record-is = ap (λ (l : List Event). length l) (recorded-at on.0 stations'.nodes.parts.items on.1 ended.0 ended.1) in
       let bytes = ap (λ (l : List ℕ). length l) (accepted-at part (parts_of live) alone state own.0 own.1 ∙ ap (λ (t : T). (state t).accepted) (sym (now.3 ∙ r.transport)) ∙ sym (accepted-at on.0 stations'.nodes.parts.items on.1 state now.0 now.1)) in
       let fails = now.4 r.fails in
       record {
-        stands = stands-moved meaning stands_after is_spent state p live s aborts stations' (ran live stations' runs) rests count on.0 on.1 on.2 (omega (arith, longer, record-was, record-is)) (omega (arith, bytes));
+        stands = stands-moved meaning stands_after is_spent state p live s aborts stations' (ran live stations' runs) rests count on.0 on.1 on.2 (on.3.handed ∙ m.same.path.handed) (on.3.gone ∙ m.same.gone) (omega (arith, bytes));
         failed = λ h is.
             let new : now.0 ≡ h = same_Some now.0 h (sym now.1 ∙ sym (head-in on.0 stations'.nodes.parts.items on.1) ∙ is) in
             ap (λ (x : HeadView T). is_some x.failure) (sym new) ∙ fails;

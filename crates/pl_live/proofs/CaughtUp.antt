@@ -13,7 +13,7 @@ use Rattle.pl_event.specs.Worlds.{World}
 use Rattle.pl_event.proofs.LaneLemmas.{lane-near}
 use Rattle.pl_event.proofs.Lists.{All-at}
 use Rattle.pl_context.specs.declared.standing.Standing.{Standing}
-use Rattle.pl_context.specs.declared.standing.Standing.TheVariants as stands
+use Rattle.pl_context.specs.declared.standing.Standing.TheVariants as standings
 use Rattle.pl_context.specs.Standings.{has_failed, is_over}
 use Rattle.pl_context.specs.TailViews.{TailView}
 use Rattle.pl_flow.specs.Flows.{Point}
@@ -21,6 +21,7 @@ use Rattle.pl_head.specs.InputStand.{steps_left}
 use Rattle.pl_head.specs.HeadStand.{HeadView, BufferAfter}
 use Rattle.pl_head.specs.Transports.{TransportState}
 use Rattle.pl_head.specs.Writes.{out}
+use Rattle.pl_head.proofs.Forgetting.{out-behind}
 use Rattle.pl_part.specs.HeadHolds.{HeadHolds, HeadTook}
 use Rattle.pl_part.specs.Parts.{ChannelPartView, part_standing}
 use Rattle.pl_part.specs.TailHolds.{TailHolds}
@@ -57,7 +58,7 @@ module _ {S T : Type 0} (meaning : S → Meaning) (stands_after : S → List Eve
   unfailed = sym (of-part ps part here (λ (q : ChannelPartView S T). has_failed (part_standing q)) false) ∙ sound.0
 
   taken-all : (l : Lane) → writes_of meaning ps l ≡ true → taken_of ps l ≡ (came_of meaning ps l).next
-  taken-all = all-taken world (nodes_view meaning live.stations.nodes) live.stations.executors.items s.backlogs live.stations.work s.stands.runs s.executors s.rests sound.1
+  taken-all = all-taken world (nodes_view meaning live.stations.nodes) live.stations.stations.items s.backlogs live.stations.work s.stands.runs s.executors s.rests sound.1
 
   rule : IsChannelPlan 1 p
   rule = All-at (IsChannelPlan 1) (p ∷ []) 0 p s.ruled.channels refl
@@ -92,25 +93,25 @@ module _ {S T : Type 0} (meaning : S → Meaning) (stands_after : S → List Eve
     tail-sound : has_failed t.standing ≡ false
     tail-sound = sound-tail part unfailed t there
 
-    pub all-recorded : t.events ≡ tail_of p
+    pub all-recorded : tail.holds.gone ++ t.events ≡ tail_of p
     all-recorded = by t.standing refl ∙ tail-is
       where
-        by : (x : Standing) → t.standing ≡ x → t.events ≡ tail.events
-        by stands.Open at = (tail.holds.taken at).1 ∙ take_all t.taken tail.events (let all = tail-all in omega (arith, all))
-        by stands.Ended at = tail.holds.ended at
-        by (stands.Failed cause) at = absurd (both_ways (has_failed t.standing) tail-sound (ap has_failed at))
+        by : (x : Standing) → t.standing ≡ x → tail.holds.gone ++ t.events ≡ tail.events
+        by standings.Open at = (tail.holds.taken at).1 ∙ take_all t.taken tail.events (let all = tail-all in omega (arith, all))
+        by standings.Ended at = tail.holds.ended at
+        by (standings.Failed cause) at = absurd (both_ways (has_failed t.standing) tail-sound (ap has_failed at))
 
-    pub tail-ended : h.input.port.is_open ≡ false → t.standing ≡ stands.Ended
+    pub tail-ended : h.input.port.is_open ≡ false → t.standing ≡ standings.Ended
     tail-ended ended = by t.standing refl
       where
-        by : (x : Standing) → t.standing ≡ x → t.standing ≡ stands.Ended
-        by stands.Open at =
+        by : (x : Standing) → t.standing ≡ x → t.standing ≡ standings.Ended
+        by standings.Open at =
             let all = tail-all in
             let one = ap end_of ended in
             let few = (tail.holds.taken at).0 in
             absurd (omega (arith, all, one, few))
-        by stands.Ended at = at
-        by (stands.Failed cause) at = absurd (both_ways (has_failed t.standing) tail-sound (ap has_failed at))
+        by standings.Ended at = at
+        by (standings.Failed cause) at = absurd (both_ways (has_failed t.standing) tail-sound (ap has_failed at))
 
   -- ---- the head
 
@@ -132,7 +133,7 @@ module _ {S T : Type 0} (meaning : S → Meaning) (stands_after : S → List Eve
     head-sound = sound-head part unfailed h has
 
     -- while its lane is open it takes what it counts
-    head-open : h.standing ≡ stands.Open → length head.events + more ≤ took.count
+    head-open : h.standing ≡ standings.Open → length head.events + more ≤ took.count
     head-open at =
         let size = ap (λ (es : List Event). length es) head-is in
         let count = took.running (or_from (is_over h.standing) h.is_closed (ap is_over at) (unclosed head-sound.0)) in
@@ -142,33 +143,34 @@ module _ {S T : Type 0} (meaning : S → Meaning) (stands_after : S → List Eve
     counted = by h.standing refl
       where
         by : (x : Standing) → h.standing ≡ x → length head.events ≤ took.count
-        by stands.Open at = let all = head-open at in omega (arith, all)
-        by stands.Ended at = let all = took.ended at in omega (arith, all)
-        by (stands.Failed cause) at = absurd (both_ways (has_failed h.standing) head-sound.1 (ap has_failed at))
+        by standings.Open at = let all = head-open at in omega (arith, all)
+        by standings.Ended at = let all = took.ended at in omega (arith, all)
+        by (standings.Failed cause) at = absurd (both_ways (has_failed h.standing) head-sound.1 (ap has_failed at))
 
     -- it has taken all before a failure of its own, which it has not
-    all-came : took.ys ≡ head_of p
+    all-came : took.gone ++ took.ys ≡ head_of p
     all-came =
         let none = (subst (λ (f : Option Cause). BufferAfter f accepted h.buffer took.ys took.zs (is_over h.standing) took.sizes) head-sound.0 took.after).0 in
-        sym (append-nil took.ys) ∙ ap (λ (zs : List Event). took.ys ++ zs) (sym none) ∙ took.in_order ∙ take_all took.count head.events counted ∙ head-is
+        sym (append-nil (took.gone ++ took.ys)) ∙ ap (λ (zs : List Event). (took.gone ++ took.ys) ++ zs) (sym none) ∙ took.in_order ∙ take_all took.count head.events counted ∙ head-is
 
-    pub all-written : IsWritten state h → accepted ≡ out (head_of p)
+    pub all-written : IsWritten state h → out took.gone ++ accepted ≡ out (head_of p)
     all-written written =
         let left = output meaning stands_after state p live s h has in
         let idle = ap (λ (f : Option Cause). is_some f || nat_le (length (out took.ys)) (length accepted)) (sym head-sound.0) ∙ written took.ys took.zs took.sizes took.after in
         let least = leb-true (length (out took.ys)) (length accepted) idle in
         let whole = ap (λ (bs : List ℕ). length bs) left.1 in
         let none = nil_from_length left.0 (omega (arith, least, whole, length-append accepted left.0)) in
-        sym (append-nil accepted) ∙ ap (λ (bs : List ℕ). accepted ++ bs) (sym none) ∙ left.1 ∙ ap out all-came
+        ap (λ (bs : List ℕ). out took.gone ++ bs) (sym (append-nil accepted) ∙ ap (λ (bs : List ℕ). accepted ++ bs) (sym none) ∙ left.1)
+        ∙ sym (out-behind took.gone took.ys took.flushed) ∙ ap out all-came
 
-    pub head-ended : h.input.port.is_open ≡ false → h.standing ≡ stands.Ended
+    pub head-ended : h.input.port.is_open ≡ false → h.standing ≡ standings.Ended
     head-ended ended = by h.standing refl
       where
-        by : (x : Standing) → h.standing ≡ x → h.standing ≡ stands.Ended
-        by stands.Open at =
+        by : (x : Standing) → h.standing ≡ x → h.standing ≡ standings.Ended
+        by standings.Open at =
             let all = head-open at in
             let one = ap end_of ended in
             let within = took.within in
             absurd (omega (arith, all, one, within))
-        by stands.Ended at = at
-        by (stands.Failed cause) at = absurd (both_ways (has_failed h.standing) head-sound.1 (ap has_failed at))
+        by standings.Ended at = at
+        by (standings.Failed cause) at = absurd (both_ways (has_failed h.standing) head-sound.1 (ap has_failed at))

@@ -13,7 +13,7 @@ use Rattle.pl_event.specs.Meaning.{Meaning, up_of, down_of}
 use Rattle.pl_event.specs.Worlds.{World, content_of}
 use Rattle.pl_event.proofs.SameLanes.{same_lane-self}
 use Rattle.pl_context.specs.declared.standing.Standing.{Standing}
-use Rattle.pl_context.specs.declared.standing.Standing.TheVariants as stands
+use Rattle.pl_context.specs.declared.standing.Standing.TheVariants as standings
 use Rattle.pl_context.specs.Standings.{is_over, has_failed}
 use Rattle.pl_context.specs.ContextViews.{ContextView, has_up, has_down, down_hop, kind_taken, taken_of as context_taken_of}
 use Rattle.pl_flow.specs.Flows.{Point}
@@ -44,10 +44,10 @@ IsThrough p ps more hop = length (content p hop) + more ≤ taken_of ps (data_la
 -- ---- points
 
 -- a node that has not failed, and has taken more than the events of its lane, has ended
-ends-with : (s : Standing) (taken size more : ℕ) → has_failed s ≡ false → (s ≡ stands.Open → taken ≤ size) → size + more ≤ taken → more ≤ 1 → more ≤ (if is_over s then 1 else 0)
-ends-with stands.Open taken size more sound within took least = let most = within refl in omega (arith, most, took)
-ends-with stands.Ended taken size more sound within took least = least
-ends-with (stands.Failed cause) taken size more sound within took least = absurd (both_ways true sound refl)
+ends-with : (s : Standing) (taken size more : ℕ) → has_failed s ≡ false → (s ≡ standings.Open → taken ≤ size) → size + more ≤ taken → more ≤ 1 → more ≤ (if is_over s then 1 else 0)
+ends-with standings.Open taken size more sound within took least = let most = within refl in omega (arith, most, took)
+ends-with standings.Ended taken size more sound within took least = least
+ends-with (standings.Failed cause) taken size more sound within took least = absurd (both_ways true sound refl)
 
 or-quit : (over quit : Bool) (more : ℕ) → more ≤ (if over then 1 else 0) → more ≤ (if over || quit then 1 else 0)
 or-quit true quit more h = h

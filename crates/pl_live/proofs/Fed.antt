@@ -12,7 +12,7 @@ use Rattle.pl_event.specs.Meaning.{Meaning}
 use Rattle.pl_event.specs.Worlds.{World}
 use Rattle.pl_event.proofs.Lists.{All-at}
 use Rattle.pl_stages.specs.Counts.{event_weight, weight}
-use Rattle.pl_context.specs.declared.standing.Standing.TheVariants as stands
+use Rattle.pl_context.specs.declared.standing.Standing.TheVariants as standings
 use Rattle.pl_context.specs.OutputsViews.{OutputsView}
 use Rattle.pl_head.specs.HeadStand.{HeadView}
 use Rattle.pl_head.specs.InputStand.{items_left, takes_bursts}
@@ -24,6 +24,7 @@ use Rattle.pl_net.specs.Nets.{StationView}
 use Rattle.pl_net.specs.Stations.{stations_view}
 use Rattle.pl_world.specs.Plans.{ChannelPlan}
 use Rattle.pl_world.specs.PlanRules.{IsChannelPlan, IsSmallChannel}
+use Rattle.pl_world.specs.Reports.{tail_of}
 use Rattle.pl_world.proofs.SmallLanes.{is_out, lane_small}
 use Rattle.pl_channel.specs.Channels.{ChannelsStand, PartStands}
 use Rattle.pl_channel.specs.Feeding.{CanBeFed, fed_channel}
@@ -33,14 +34,14 @@ use Rattle.pl_channel.proofs.Feeding.{fed-holds, few-more}
 use Rattle.pl_replay.specs.Moves.{nodes_view, nodes_stand}
 use Rattle.pl_replay.specs.Views.{channels_view}
 use Rattle.pl_live.specs.declared.live.TheConstants.{MAX_FED}
-use Rattle.pl_live.specs.LiveStand.{LiveView, LiveStands, GoesAlone, alone, may_take, parts_of}
+use Rattle.pl_live.specs.LiveStand.{LiveView, LiveStands, GoesAlone, HandsOut, accepted_in, alone, gone_in, handed_in, may_take, parts_of}
 use Rattle.pl_live.proofs.FedViews.{fed-done, fed-view, fed-whole}
-use Rattle.pl_live.proofs.FedGoes.{goes-fed}
+use Rattle.pl_live.proofs.FedGoes.{goes-fed, handed-fed}
 use Rattle.pl_live.proofs.IdleNets.{idle-stands}
 use Rattle.pl_live.proofs.Looks.{may-feed}
 
 module _ {S T : Type 0} (meaning : S → Meaning) (stands_after : S → List Event → Type 0) (state : T → TransportState) (p : ChannelPlan) (burst : List Element) (live : LiveView S T) (s : LiveStands meaning stands_after state p live)
-    (is_open : part_standing s.goes.part ≡ stands.Open) (reads : (h : HeadView T) → s.goes.part.head ≡ Some h → takes_bursts h.input ≡ true) (room : ℕ) (size : weight (burst_events burst) + room ≡ live.room) where
+    (is_open : part_standing s.goes.part ≡ standings.Open) (reads : (h : HeadView T) → s.goes.part.head ≡ Some h → takes_bursts h.input ≡ true) (room : ℕ) (size : weight (burst_events burst) + room ≡ live.room) where
   abbrev p' : ChannelPlan
   p' = fed_channel burst p
 
@@ -107,27 +108,35 @@ module _ {S T : Type 0} (meaning : S → Meaning) (stands_after : S → List Eve
       at-one zero q at = subst (λ (x : ChannelPartView S T). PartStands world' meaning stands_after state 0 x) (same_Some part' q at) stands-fed
       at-one (suc c) q at = absurd (none-some q at)
 
--- It stands at the plan with this burst more.
-pub fed-stands : {S T : Type 0} (meaning : S → Meaning) (stands_after : S → List Event → Type 0) (state : T → TransportState) (p : ChannelPlan) (burst : List Element) (live live' : LiveView S T) (s : LiveStands meaning stands_after state p live)
-    → part_standing s.goes.part ≡ stands.Open → ((h : HeadView T) → s.goes.part.head ≡ Some h → takes_bursts h.input ≡ true) → weight (burst_events burst) + live'.room ≡ live.room
-    → parts_of live' ≡ fed_part burst s.goes.part ∷ [] → live'.stations.executors.items ≡ live.stations.executors.items → live'.stations.work ≡ live.stations.work
-    → live'.ends ≡ live.ends → live'.told ≡ live.told → live'.consumed ≡ live.consumed → LiveStands meaning stands_after state (fed_channel burst p) live'
-fed-stands meaning stands_after state p burst live live' s is_open reads size parts executors work ends told consumed = record {
-  ruled = plan-ruled burst 0 (alone p) p refl s.ruled;
-  small = small meaning stands_after state p burst live s is_open reads live'.room size;
-  thrifty_inbound = s.thrifty_inbound;
-  thrifty_outbound = s.thrifty_outbound;
-  fed = weighs meaning stands_after state p burst live s is_open reads live'.room size;
-  goes = subst (λ (x : Bool × ℕ × ℕ × List (ChannelPartView _ _)). GoesAlone meaning stands_after state (fed_channel burst p) x.0 x.1 x.2 x.3) (λ i. (sym ends i, sym told i, sym consumed i, sym parts i))
-      (goes-fed meaning stands_after state p burst live.ends live.told live.consumed (parts_of live) s.goes reads);
-  executors = ap (λ (es : List StationView). length es) executors ∙ s.executors;
-  backlogs = s.backlogs;
-  stands = idle-stands (world_of false (alone p)) (world_of false (alone (fed_channel burst p))) (nodes_view meaning) (nodes_stand meaning stands_after state) 0 (stations_view live.stations s.backlogs) (stations_view live'.stations s.backlogs) s.executors s.rests s.stands
-      (subst (λ (ps : List (ChannelPartView _ _)). ChannelsStand (world_of false (alone (fed_channel burst p))) meaning stands_after state ps) (sym parts) (hold meaning stands_after state p burst live s is_open reads live'.room size))
-      (ap (λ (ps : List (ChannelPartView _ _)). channels_view meaning ps) parts ∙ fed-view burst s.goes.part meaning ∙ ap (λ (ps : List (ChannelPartView _ _)). channels_view meaning ps) (sym s.goes.is_alone))
-      executors refl work;
-  rests = ap (λ (w : OutputsView). w.items) work ∙ s.rests;
-}
+module _ {S T : Type 0} where
+  -- It stands at the plan with this burst more.
+  pub fed-stands : (meaning : S → Meaning) (stands_after : S → List Event → Type 0) (state : T → TransportState) (p : ChannelPlan) (burst : List Element) (live live' : LiveView S T) (s : LiveStands meaning stands_after state p live)
+      → part_standing s.goes.part ≡ standings.Open → ((h : HeadView T) → s.goes.part.head ≡ Some h → takes_bursts h.input ≡ true) → weight (burst_events burst) + live'.room ≡ live.room
+      → parts_of live' ≡ fed_part burst s.goes.part ∷ [] → live'.stations.stations.items ≡ live.stations.stations.items → live'.stations.work ≡ live.stations.work
+      → live'.ends ≡ live.ends → live'.delivered ≡ live.delivered → live'.front ≡ live.front → live'.gone ≡ live.gone → live'.consumed ≡ live.consumed → LiveStands meaning stands_after state (fed_channel burst p) live'
+  fed-stands meaning stands_after state p burst live live' s is_open reads size parts executors work ends delivered front gone consumed = record {
+    ruled = plan-ruled burst 0 (alone p) p refl s.ruled;
+    small = small meaning stands_after state p burst live s is_open reads live'.room size;
+    thrifty_inbound = s.thrifty_inbound;
+    thrifty_outbound = s.thrifty_outbound;
+    fed = weighs meaning stands_after state p burst live s is_open reads live'.room size;
+    goes = subst (λ (x : Bool × List (ChannelPartView S T)). GoesAlone meaning stands_after state (fed_channel burst p) x.0 x.1) (λ i. (sym ends i, sym parts i))
+        (goes-fed meaning stands_after state p burst live.ends (parts_of live) s.goes reads);
+    handed =
+        let h = handed-fed state p burst (parts_of live) s.goes.part live.delivered live.front live.gone live.consumed s.goes.is_alone s.handed.events s.handed.gone_is s.handed.consumed_within in
+        record {
+          events = subst (λ (x : ℕ × List Event × List (ChannelPartView S T)). HandsOut (tail_of (fed_channel burst p)) x.0 x.1 (handed_in x.2)) (λ i. (sym delivered i, sym front i, sym parts i)) h.0;
+          gone_is = gone ∙ h.1 ∙ ap (λ (ps : List (ChannelPartView S T)). gone_in ps) (sym parts);
+          consumed_within = subst (λ (x : ℕ × List (ChannelPartView S T)). x.0 ≤ length (accepted_in state x.1)) (λ i. (sym consumed i, sym parts i)) h.2;
+        };
+    executors = ap (λ (es : List StationView). length es) executors ∙ s.executors;
+    backlogs = s.backlogs;
+    stands = idle-stands (world_of false (alone p)) (world_of false (alone (fed_channel burst p))) (nodes_view meaning) (nodes_stand meaning stands_after state) 0 (stations_view live.stations s.backlogs) (stations_view live'.stations s.backlogs) s.executors s.rests s.stands
+        (subst (λ (ps : List (ChannelPartView S T)). ChannelsStand (world_of false (alone (fed_channel burst p))) meaning stands_after state ps) (sym parts) (hold meaning stands_after state p burst live s is_open reads live'.room size))
+        (ap (λ (ps : List (ChannelPartView S T)). channels_view meaning ps) parts ∙ fed-view burst s.goes.part meaning ∙ ap (λ (ps : List (ChannelPartView S T)). channels_view meaning ps) (sym s.goes.is_alone))
+        executors refl work;
+    rests = ap (λ (w : OutputsView). w.items) work ∙ s.rests;
+  }
 
 -- ---- as who feeds it sees it
 
@@ -135,7 +144,7 @@ fed-stands meaning stands_after state p burst live live' s is_open reads size pa
 module _ {S T : Type 0} (meaning : S → Meaning) (stands_after : S → List Event → Type 0) (state : T → TransportState) (p : ChannelPlan) (burst shown : List Element) (live now : LiveView S T) (s : LiveStands meaning stands_after state p live) (same : live ≡ now)
     (takes : Bool) (answers : takes ≡ may_take now) (may : takes ≡ true) (room : ℕ) (is_shown : shown ≡ burst) (fits : (weight (burst_events shown) ≤ live.room) × (room ≡ live.room - weight (burst_events shown)))
     (before : ChannelPartView S T) (was : before ≡ get_or (parts_of live) 0 before) where
-  going : (part_standing s.goes.part ≡ stands.Open) × ((h : HeadView T) → s.goes.part.head ≡ Some h → takes_bursts h.input ≡ true)
+  going : (part_standing s.goes.part ≡ standings.Open) × ((h : HeadView T) → s.goes.part.head ≡ Some h → takes_bursts h.input ≡ true)
   going = may-feed meaning stands_after state p live s (ap (λ (l : LiveView S T). may_take l) same ∙ sym answers ∙ may)
 
   size : weight (burst_events burst) + room ≡ live.room
@@ -152,4 +161,4 @@ module _ {S T : Type 0} (meaning : S → Meaning) (stands_after : S → List Eve
   pub stands-with : (after : ChannelPartView S T) → after ≡ fed_part burst before
       → LiveStands meaning stands_after state (fed_channel burst p) (record live { stations = record live.stations { nodes = record { parts = with_item live.stations.nodes.parts 0 after } }; room = room })
   stands-with after is = fed-stands meaning stands_after state p burst live (record live { stations = record live.stations { nodes = record { parts = with_item live.stations.nodes.parts 0 after } }; room = room }) s going.0 going.1 size
-      (ap (λ (ps : List (ChannelPartView S T)). slice_set ps 0 after) s.goes.is_alone ∙ ap (λ (q : ChannelPartView S T). q ∷ []) (is ∙ ap (λ (q : ChannelPartView S T). fed_part burst q) own)) refl refl refl refl refl
+      (ap (λ (ps : List (ChannelPartView S T)). slice_set ps 0 after) s.goes.is_alone ∙ ap (λ (q : ChannelPartView S T). q ∷ []) (is ∙ ap (λ (q : ChannelPartView S T). fed_part burst q) own)) refl refl refl refl refl refl refl

@@ -7,7 +7,7 @@ use Rattle.pl_event.specs.declared.elements.Element.{Element}
 use Rattle.pl_event.specs.declared.envelopes.Lane.{Lane}
 use Rattle.pl_event.specs.Meaning.{Meaning}
 use Rattle.pl_flow.specs.Flows.{Point, nowhere}
-use Rattle.pl_head.specs.HeadStand.{HeadView, fed_head}
+use Rattle.pl_head.specs.HeadStand.{HeadView, fed_head, gone_of}
 use Rattle.pl_part.specs.Counts.{part_done, path_done, head_done}
 use Rattle.pl_part.specs.Growing.{fed_part}
 use Rattle.pl_part.specs.HeadHolds.{head_came, head_taken, head_writes}
@@ -50,8 +50,9 @@ module _ {S T : Type 0} (burst : List Element) (part : ChannelPartView S T) wher
 
   same-part : SamePart part fed
   same-part = record {
-    path = record { channel = refl; executors = refl; contexts = refl; tail = refl; tail_hop = refl; turn = refl };
+    path = record { channel = refl; executors = refl; contexts = refl; tail = refl; tail_hop = refl; turn = refl; handed = refl };
     head = still-there;
+    gone = of-head (λ h. gone_of h) (0, false) (λ h. refl);
   }
 
   pub fed-whole : HasAllNodes part → HasAllNodes fed

@@ -1,80 +1,33 @@
 -- What taking an item leaves of a part whose nodes go by the plan of a live channel: they go by it still, the head reads and
--- sends as before, and the tail forgets nothing.
-use Rattle.std.proofs.Common.{◌≡◌, ℕ, zero, suc, ◌≤◌, ◌==◌, Bool, true, false, List, [], ◌∷◌, length, Option, Some, None, refl, sym, ap, subst, ◌∙◌, inl, inr, arith, length-append}
+-- sends as before, and nothing is handed over or forgotten.
+use Rattle.std.proofs.Common.{◌≡◌, ℕ, zero, suc, ◌==◌, Bool, true, false, List, [], ◌∷◌, length, Option, Some, None, refl, sym, ap, subst, ◌∙◌, inl, inr}
 use Rattle.std.specs.Prelude.{is_some, slice_get, slice_set, ◌&&◌, ◌||◌}
 use Rattle.std.proofs.lemmas.Bool.{both_ways, cases_Bool, or_left}
 use Rattle.std.proofs.lemmas.List.{length-map}
 use Rattle.std.proofs.lemmas.Option.{none-some, same_Some}
 use Rattle.pl_event.specs.declared.events.Event.{Event}
 use Rattle.pl_event.specs.declared.envelopes.Envelope.{Envelope}
-use Rattle.pl_event.specs.declared.envelopes.Item.{Item}
-use Rattle.pl_event.specs.declared.envelopes.Item.TheVariants as item
-use Rattle.pl_event.specs.declared.envelopes.Kind.{Kind}
-use Rattle.pl_event.specs.declared.envelopes.Kind.TheVariants.{Data, Flags}
 use Rattle.pl_event.specs.declared.outcomes.Cause.{Cause}
 use Rattle.pl_event.specs.Meaning.{Meaning}
 use Rattle.pl_event.specs.Worlds.{closes}
 use Rattle.pl_event.proofs.Lists.{some-of}
 use Rattle.pl_context.specs.declared.standing.Standing.{Standing}
-use Rattle.pl_context.specs.declared.standing.Standing.TheVariants as stands
+use Rattle.pl_context.specs.declared.standing.Standing.TheVariants as standings
 use Rattle.pl_context.specs.declared.standing.Took.{Took}
-use Rattle.pl_context.specs.declared.standing.Took.TheVariants as took
-use Rattle.pl_context.specs.Standings.{has_failed, is_over}
+use Rattle.pl_context.specs.Standings.{is_over}
 use Rattle.pl_context.specs.ContextViews.{ContextView}
 use Rattle.pl_context.specs.OutputsViews.{OutputsView}
-use Rattle.pl_context.specs.TailViews.{TailView, RecordsItem, RecordsFlag, RecordsFlagItem, counted}
 use Rattle.pl_head.specs.HeadCalls.{HeadTakes}
 use Rattle.pl_head.specs.HeadStand.{HeadView, first_cause, cause_of_item, lane_over}
 use Rattle.pl_head.specs.InputStand.{InputStands, fed_plan}
 use Rattle.pl_head.specs.Transports.{TransportState}
-use Rattle.pl_part.specs.Taking.{TailTakes}
-use Rattle.pl_part.specs.Parts.{ChannelPartView, SamePart, PartTakes, head_hop}
+use Rattle.pl_part.specs.Paths.{path_handed_over}
+use Rattle.pl_part.specs.Parts.{ChannelPartView, SamePart, PartTakes, head_hop, part_gone}
 use Rattle.pl_channel.specs.Channels.{HasMoved}
 use Rattle.pl_channel.specs.Feeding.{MeansPlan}
 use Rattle.pl_world.specs.Plans.{ChannelPlan}
 use Rattle.pl_live.specs.LiveStand.{IsUnclosed, ReadsFed, GoesByPlan}
 use Rattle.pl_live.proofs.Meant.{takes-means}
-
--- ---- a tail that took an item
-
-event-kept : (t : TailView) (x : Event) (answer : Took) (t' : TailView) → RecordsItem t (item.Event x) answer t' → length t.events ≤ length t'.events
-event-kept t x took.Ran t' r =
-    let size = ap (λ (y : TailView). length y.events) r.0 in
-    let more = length-append t.events (x ∷ []) in
-    omega (arith, size, more)
-event-kept t x (took.Failed cause) t' r = let size = ap (λ (y : TailView). length y.events) r.2 in omega (arith, size)
-event-kept t x took.Ended t' r = absurd r
-event-kept t x took.Dropped t' r = absurd r
-
-item-kept : (t : TailView) (i : Item) (answer : Took) (t' : TailView) → RecordsItem t i answer t' → length t.events ≤ length t'.events
-item-kept t (item.Event x) answer t' r = event-kept t x answer t' r
-item-kept t item.End answer t' r = let size = ap (λ (y : TailView). length y.events) r.1 in omega (arith, size)
-item-kept t (item.Fail cause) answer t' r = let size = ap (λ (y : TailView). length y.events) r.1 in omega (arith, size)
-item-kept t (item.Flag value) answer t' r = let size = ap (λ (y : TailView). length y.events) r.1 in omega (arith, size)
-
-flag-kept : (t t' : TailView) (value : Bool) → RecordsFlag t value t' → (b : Bool) → t.flags_stopped ≡ b → length t.events ≤ length t'.events
-flag-kept t t' value r true is = let size = ap (λ (y : TailView). length y.events) (r.stopped is) in omega (arith, size)
-flag-kept t t' value r false is = elim (r.goes_on is) [
-  | inl adds ↦ let size = ap (λ (y : TailView). length y.events) adds.same in omega (arith, size)
-  | inr loses ↦ let size = ap (λ (y : TailView). length y.events) loses.same in omega (arith, size)
-]
-
-flag-item-kept : (t : TailView) (i : Item) (t' : TailView) → RecordsFlagItem t i t' → length t.events ≤ length t'.events
-flag-item-kept t (item.Flag value) t' r = flag-kept t t' value r t.flags_stopped refl
-flag-item-kept t (item.Event x) t' r = let size = ap (λ (y : TailView). length y.events) r in omega (arith, size)
-flag-item-kept t item.End t' r = let size = ap (λ (y : TailView). length y.events) r in omega (arith, size)
-flag-item-kept t (item.Fail cause) t' r = let size = ap (λ (y : TailView). length y.events) r in omega (arith, size)
-
-tail-kept : (t : TailView) (e : Envelope) (answer : Took) (t' : TailView) → TailTakes t e answer t' → (k : Kind) (s : Standing) → e.lane.kind ≡ k → t.standing ≡ s → length t.events ≤ length t'.events
-tail-kept t e answer t' r Data stands.Open kind is = item-kept (counted Data t) e.item answer t' (r.open_item kind is)
-tail-kept t e answer t' r Data stands.Ended kind is = let size = ap (λ (y : TailView). length y.events) (r.ended kind is).1 in omega (arith, size)
-tail-kept t e answer t' r Flags stands.Open kind is = flag-item-kept (counted Flags t) e.item t' (r.flags kind (ap has_failed is)).1
-tail-kept t e answer t' r Flags stands.Ended kind is = flag-item-kept (counted Flags t) e.item t' (r.flags kind (ap has_failed is)).1
-tail-kept t e answer t' r k (stands.Failed cause) kind is = let size = ap (λ (y : TailView). length y.events) ((r.dropped (ap has_failed is)).1 ∙ ap (λ (n : Kind). counted n t) kind) in kept k size
-  where
-    kept : (n : Kind) → length t'.events ≡ length (counted n t).events → length t.events ≤ length t'.events
-    kept Data size = omega (arith, size)
-    kept Flags size = omega (arith, size)
 
 -- a head that has failed has
 pub some-failed : (f later : Option Cause) → is_some f ≡ true → is_some (first_cause f later) ≡ true
@@ -85,21 +38,23 @@ pub none-before : (f later : Option Cause) → first_cause f later ≡ None → 
 none-before None later e = refl
 none-before (Some cause) later e = absurd (none-some cause (sym e))
 
-is-open : (s : Standing) (closed : Bool) → (is_over s || closed) ≡ false → s ≡ stands.Open
-is-open stands.Open closed e = refl
-is-open stands.Ended closed e = absurd (both_ways true e refl)
-is-open (stands.Failed cause) closed e = absurd (both_ways true e refl)
+is-open : (s : Standing) (closed : Bool) → (is_over s || closed) ≡ false → s ≡ standings.Open
+is-open standings.Open closed e = refl
+is-open standings.Ended closed e = absurd (both_ways true e refl)
+is-open (standings.Failed cause) closed e = absurd (both_ways true e refl)
 
 -- ---- what follows a part
 
 module _ {S T : Type 0} where
-  -- A part follows another: the head, which reads and sends as it did, has failed where it had; and the tail forgets nothing.
+  -- A part follows another: the head, which reads and sends as it did, has failed where it had; and nothing is handed over or
+  -- forgotten.
   pub record Follows (part part' : ChannelPartView S T) : Type 0 where
     pub head : (h : HeadView T) → part.head ≡ Some h → (h' : HeadView T) × (part'.head ≡ Some h') × (h'.input ≡ h.input) × (h'.transport ≡ h.transport) × (is_some h.failure ≡ true → is_some h'.failure ≡ true) × (IsUnclosed h → IsUnclosed h')
-    pub tail : (t : TailView) → part.path.tail ≡ Some t → (t' : TailView) × (part'.path.tail ≡ Some t') × (length t.events ≤ length t'.events)
+    pub handed : path_handed_over part'.path ≡ path_handed_over part.path
+    pub gone : part_gone part' ≡ part_gone part
 
   pub follows-self : (part : ChannelPartView S T) → Follows part part
-  follows-self part = record { head = λ h at. (h, at, refl, refl, λ f. f, λ u. u); tail = λ t at. (t, at, omega arith) }
+  follows-self part = record { head = λ h at. (h, at, refl, refl, λ f. f, λ u. u); handed = refl; gone = refl }
 
   pub follows-on : (a b c : ChannelPartView S T) → Follows a b → Follows b c → Follows a c
   follows-on a b c f g = record {
@@ -107,24 +62,20 @@ module _ {S T : Type 0} where
         let x = f.head h at in
         let y = g.head x.0 x.1 in
         (y.0, y.1, y.2 ∙ x.2, y.3 ∙ x.3, λ failed. y.4 (x.4 failed), λ u. y.5 (x.5 u));
-    tail = λ t at.
-        let x = f.tail t at in
-        let y = g.tail x.0 x.1 in
-        let n = x.2 in
-        let m = y.2 in
-        (y.0, y.1, omega (arith, n, m));
+    handed = g.handed ∙ f.handed;
+    gone = g.gone ∙ f.gone;
   }
 
   -- ---- an item taken
 
   module _ (meaning : S → Meaning) (stands_after : S → List Event → Type 0) (is_spent : S → Bool) (state : T → TransportState) where
     head-takes : (h h' : HeadView T) (e : Envelope) (b : OutputsView) (answer : Took) (a : OutputsView) → HeadTakes state h e b answer h' a → (s : Standing) → h.standing ≡ s → is_some h.failure ≡ true → is_some h'.failure ≡ true
-    head-takes h h' e b answer a t stands.Open is failed = ap (λ (f : Option Cause). is_some f) (t.failure is) ∙ some-failed h.failure (cause_of_item e.item answer) failed
-    head-takes h h' e b answer a t stands.Ended is failed = ap (λ (x : HeadView T). is_some x.failure) (t.over (over-by (ap is_over is))).1 ∙ failed
+    head-takes h h' e b answer a t standings.Open is failed = ap (λ (f : Option Cause). is_some f) (t.failure is) ∙ some-failed h.failure (cause_of_item e.item answer) failed
+    head-takes h h' e b answer a t standings.Ended is failed = ap (λ (x : HeadView T). is_some x.failure) (t.over (over-by (ap is_over is))).1 ∙ failed
       where
         over-by : is_over h.standing ≡ true → lane_over h ≡ true
         over-by over = or_left (is_over h.standing) h.is_closed over
-    head-takes h h' e b answer a t (stands.Failed cause) is failed = ap (λ (x : HeadView T). is_some x.failure) (t.over (over-by (ap is_over is))).1 ∙ failed
+    head-takes h h' e b answer a t (standings.Failed cause) is failed = ap (λ (x : HeadView T). is_some x.failure) (t.over (over-by (ap is_over is))).1 ∙ failed
       where
         over-by : is_over h.standing ≡ true → lane_over h ≡ true
         over-by over = or_left (is_over h.standing) h.is_closed over
@@ -137,27 +88,20 @@ module _ {S T : Type 0} where
           t.closed going ∙ ap (λ (f : Option Cause). is_some f && closes e.item) unfailed
     ]
 
-    pub takes-follow : (part part' : ChannelPartView S T) (e : Envelope) (b : OutputsView) (answer : Took) (a : OutputsView) → SamePart part part' → PartTakes meaning stands_after is_spent state part e b answer part' a → is_some part.head ≡ true → Follows part part'
-    takes-follow part part' e b answer a same t has = elim (cases_Bool (e.lane.hop == head_hop part)) [
+    pub takes-follow : (part part' : ChannelPartView S T) (e : Envelope) (b : OutputsView) (answer : Took) (a : OutputsView) → SamePart part part' → PartTakes meaning stands_after is_spent state part e b answer part' a → Follows part part'
+    takes-follow part part' e b answer a same t = elim (cases_Bool (e.lane.hop == head_hop part)) [
       | inl here ↦ record {
         head = λ h at.
             let took = t.head h here at in
             (took.0, took.1, ap (λ (x : HeadView T). x.input) took.2.same, ap (λ (x : HeadView T). x.transport) took.2.same, λ failed. head-takes h took.0 e b answer a took.2 h.standing refl failed, λ u. takes-unclosed h took.0 e b answer a took.2 u);
-        tail = λ t0 at.
-            let whole = some-of part.head has in
-            (t0, ap (λ (path : _). path.tail) (t.head whole.0 here whole.1).3 ∙ at, omega arith);
+        handed = same.path.handed;
+        gone = same.gone;
       }
-      | inr away ↦
-          let path = t.path away in
-          record {
-            head = λ h at. (h, path.1 ∙ at, refl, refl, λ f. f, λ u. u);
-            tail = λ t0 at. elim (cases_Bool (e.lane.hop == part.path.tail_hop)) [
-              | inl own ↦
-                  let took = path.0.tail t0 own at in
-                  (took.0, took.1, tail-kept t0 e answer took.0 took.2 e.lane.kind t0.standing refl refl)
-              | inr other ↦ (t0, path.0.tail_kept other ∙ at, omega arith)
-            ];
-          }
+      | inr away ↦ record {
+        head = λ h at. (h, (t.path away).1 ∙ at, refl, refl, λ f. f, λ u. u);
+        handed = same.path.handed;
+        gone = same.gone;
+      }
     ]
 
   -- ---- the plan
@@ -203,7 +147,7 @@ module _ {S T : Type 0} where
     pub takes-go : (is_spent : S → Bool) (part part' : ChannelPartView S T) (e : Envelope) (b : OutputsView) (answer : Took) (a : OutputsView) → SamePart part part' → PartTakes meaning stands_after is_spent state part e b answer part' a
         → GoesByPlan meaning stands_after state p ends part → GoesByPlan meaning stands_after state p ends part' × Follows part part'
     takes-go is_spent part part' e b answer a same t g =
-        let f = takes-follow meaning stands_after is_spent state part part' e b answer a same t g.has_head in
+        let f = takes-follow meaning stands_after is_spent state part part' e b answer a same t in
         (goes-same part part' same (takes-means meaning p part part' stands_after is_spent state e b a answer same g.has_head t g.tail_at g.meant) (follows-head part part' f g) g, f)
 
 -- ---- a channel that is alone

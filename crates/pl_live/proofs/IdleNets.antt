@@ -52,14 +52,14 @@ module _ (world world' : World) where
   }
 
   -- Nodes that stand there and are seen as those before them, with the same on its way, stand so together.
-  pub idle-stands : {N : Type 0} (view_of : N → NodesView) (stands : World → N → Type 0) (x : ℕ) (c c' : StationsView N) → length c.executors ≡ 1 → c.work.items ≡ [] → StationsStand view_of stands world x c
-      → stands world' c'.nodes → view_of c'.nodes ≡ view_of c.nodes → c'.executors ≡ c.executors → c'.backlogs ≡ c.backlogs → c'.work ≡ c.work → StationsStand view_of stands world' x c'
+  pub idle-stands : {N : Type 0} (view_of : N → NodesView) (stands : World → N → Type 0) (x : ℕ) (c c' : StationsView N) → length c.stations ≡ 1 → c.work.items ≡ [] → StationsStand view_of stands world x c
+      → stands world' c'.nodes → view_of c'.nodes ≡ view_of c.nodes → c'.stations ≡ c.stations → c'.backlogs ≡ c.backlogs → c'.work ≡ c.work → StationsStand view_of stands world' x c'
   idle-stands view_of stands x c c' one rests s hold view executors backlogs work = record {
     hold = hold;
-    runs = kept (λ k. NetRuns world' k.0 x k.1 k.2 k.3) (idle-runs (view_of c.nodes) x c.executors c.backlogs c.work one rests s.runs);
+    runs = kept (λ k. NetRuns world' k.0 x k.1 k.2 k.3) (idle-runs (view_of c.nodes) x c.stations c.backlogs c.work one rests s.runs);
     counts = kept (λ k. AreFew k.0 k.1 k.3) s.counts;
     places = kept (λ k. HasPlaces k.3.stopped k.0.lanes.places) s.places;
   }
     where
-      kept : (P : NodesView × List StationView × (ℕ → List (Entry (Unit {0}))) × OutputsView → Type 0) → P (view_of c.nodes, c.executors, c.backlogs, c.work) → P (view_of c'.nodes, c'.executors, c'.backlogs, c'.work)
+      kept : (P : NodesView × List StationView × (ℕ → List (Entry (Unit {0}))) × OutputsView → Type 0) → P (view_of c.nodes, c.stations, c.backlogs, c.work) → P (view_of c'.nodes, c'.stations, c'.backlogs, c'.work)
       kept P was = subst P (λ i. (sym view i, sym executors i, sym backlogs i, sym work i)) was

@@ -18,6 +18,6 @@ pub mod LiveEnds
 pub mod CaughtUp
 pub mod Pending
 pub mod AbortMoves
-pub mod Reported
 pub mod Changed
+pub mod Kept
 pub mod LiveStarts

@@ -5,9 +5,8 @@ use Rattle.pl_event.specs.declared.events.Event.{Event}
 use Rattle.pl_event.specs.declared.outcomes.Cause.{Cause}
 use Rattle.pl_event.specs.Meaning.{Meaning, IsPrefixOf}
 use Rattle.pl_event.specs.Worlds.{World}
-use Rattle.pl_event.proofs.Lists.{prefix-trans}
 use Rattle.pl_context.specs.declared.standing.Standing.{Standing}
-use Rattle.pl_context.specs.declared.standing.Standing.TheVariants as stands
+use Rattle.pl_context.specs.declared.standing.Standing.TheVariants as standings
 use Rattle.pl_context.specs.Standings.{has_failed, is_over}
 use Rattle.pl_context.specs.TailViews.{TailView}
 use Rattle.pl_head.specs.HeadStand.{HeadView, BufferAfter}
@@ -16,9 +15,9 @@ use Rattle.pl_head.specs.Writes.{out}
 use Rattle.pl_part.specs.HeadHolds.{HeadHolds, HeadTook}
 use Rattle.pl_part.specs.Parts.{ChannelPartView}
 use Rattle.pl_part.specs.TailHolds.{TailHolds}
+use Rattle.pl_part.proofs.HeadReports.{bytes-behind}
 use Rattle.pl_world.specs.Plans.{ChannelPlan, tail_hop, planned_head_hop}
 use Rattle.pl_world.specs.Reports.{tail_of, head_of}
-use Rattle.pl_world.proofs.PlannedReports.{out-prefix}
 use Rattle.pl_channel.specs.Channels.{PartStands}
 use Rattle.pl_channel.specs.Lanes.{world_of}
 use Rattle.pl_channel.proofs.HeadLanes.{comes-to, first-of}
@@ -48,13 +47,17 @@ module _ {S T : Type 0} (meaning : S → Meaning) (stands_after : S → List Eve
       let at = part-stands.holds.path.tail t has in
       comes-to false (alone p) 0 at.0.events (tail_of p) t.channel t.hop (tail_hop p) at.0.holds.own (at.1 ∙ part-stands.channel) (at.2 ∙ s.goes.by_plan.tail_at) (content-planned (alone p) 0 p refl (tail_hop p) (omega arith))
 
-  pub recorded-begins : (t : TailView) → part.path.tail ≡ Some t → (rest : List Event) × (t.events ++ rest ≡ tail_of p)
-  recorded-begins t has = subst (λ (xs : List Event). IsPrefixOf t.events xs) (to-tail t has) (by t.standing refl)
+  -- what it has recorded, handed over or not
+  abbrev pub all-recorded-by : (t : TailView) → part.path.tail ≡ Some t → List Event
+  all-recorded-by t has = (held-tail t has).holds.gone ++ t.events
+
+  pub recorded-begins : (t : TailView) (has : part.path.tail ≡ Some t) → (rest : List Event) × (all-recorded-by t has ++ rest ≡ tail_of p)
+  recorded-begins t has = subst (λ (xs : List Event). IsPrefixOf (all-recorded-by t has) xs) (to-tail t has) (by t.standing refl)
     where
-      by : (x : Standing) → t.standing ≡ x → IsPrefixOf t.events (held-tail t has).events
-      by stands.Open at = first-of t.taken t.events (held-tail t has).events ((held-tail t has).holds.taken at).1
-      by stands.Ended at = ([], append-nil t.events ∙ (held-tail t has).holds.ended at)
-      by (stands.Failed cause) at = let some = (held-tail t has).holds.failed (ap has_failed at) in first-of some.0 t.events (held-tail t has).events some.2
+      by : (x : Standing) → t.standing ≡ x → IsPrefixOf (all-recorded-by t has) (held-tail t has).events
+      by standings.Open at = first-of t.taken (all-recorded-by t has) (held-tail t has).events ((held-tail t has).holds.taken at).1
+      by standings.Ended at = ([], append-nil (all-recorded-by t has) ∙ (held-tail t has).holds.ended at)
+      by (standings.Failed cause) at = let some = (held-tail t has).holds.failed (ap has_failed at) in first-of some.0 (all-recorded-by t has) (held-tail t has).events some.2
 
   -- ---- the head
 
@@ -67,7 +70,7 @@ module _ {S T : Type 0} (meaning : S → Meaning) (stands_after : S → List Eve
         let at = part-stands.holds.head h has in
         comes-to false (alone p) 0 at.0.events (head_of p) h.channel h.hop (planned_head_hop p) at.0.holds.own (at.1 ∙ part-stands.channel) (at.2 ∙ s.goes.by_plan.head_at) (content-planned (alone p) 0 p refl (planned_head_hop p) (omega arith))
 
-    abbrev took : HeadTook state held-head.events h
+    abbrev pub took : HeadTook state held-head.events h
     took = held-head.holds.took
 
     abbrev accepted : List ℕ
@@ -80,9 +83,6 @@ module _ {S T : Type 0} (meaning : S → Meaning) (stands_after : S → List Eve
         by None a = (a.1.left, a.1.output)
         by (Some cause) a = (a.left, a.output)
 
-    pub accepted-begins : (rest : List ℕ) × (accepted ++ rest ≡ out (head_of p))
-    accepted-begins = prefix-trans accepted (out took.ys) (out (head_of p)) output (out-prefix took.ys (head_of p) first)
-      where
-        first : IsPrefixOf took.ys (head_of p)
-        first = prefix-trans took.ys (took.ys ++ took.zs) (head_of p) (took.zs, refl)
-            (subst (λ (xs : List Event). IsPrefixOf (took.ys ++ took.zs) xs) to-head (first-of took.count (took.ys ++ took.zs) held-head.events took.in_order))
+    -- what is gone, and the bytes that its transport holds behind that
+    pub accepted-begins : (rest : List ℕ) × (out took.gone ++ accepted ++ rest ≡ out (head_of p))
+    accepted-begins = let b = bytes-behind state h held-head.events took in (b.0, b.1 ∙ ap out to-head)

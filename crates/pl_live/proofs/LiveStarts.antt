@@ -22,12 +22,13 @@ use Rattle.pl_head.specs.declared.inputs.ReadPlan.{ReadPlan}
 use Rattle.pl_world.specs.Limits.{is_placed, is_within}
 use Rattle.pl_world.specs.Plans.{ChannelPlan, channel_planned, planned}
 use Rattle.pl_world.specs.PlanRules.{IsSmallChannel}
+use Rattle.pl_world.specs.Reports.{tail_of}
 use Rattle.pl_channel.specs.Feeding.{MeansPlan}
-use Rattle.pl_channel.specs.Placing.{IsNewHead}
+use Rattle.pl_channel.specs.WholeParts.{IsNewHead}
 use Rattle.pl_replay.specs.Starts.{HasPlannedStages, NetBegins, transports_of}
 use Rattle.pl_replay.specs.declared.channels.Channels.{Channels}
 use Rattle.pl_live.specs.declared.live.TheConstants.{MAX_FED}
-use Rattle.pl_live.specs.LiveStand.{IsUnclosed, LiveStands, ReadsFed}
+use Rattle.pl_live.specs.LiveStand.{IsUnclosed, LiveStands, ReadsFed, gone_in, handed_in}
 
 -- ---- what new contexts mean
 
@@ -74,7 +75,7 @@ module _ {S T : Type 0} (meaning : S → Meaning) (stands_after : S → List Eve
   new-reads h new = record { reads = 0; failed = false; stand = new.reads; by_failure = λ e. absurd (both_ways true (sym e) refl); not_ended = λ _. omega arith }
 
   pub starts : (stations : Stations (Channels S T)) → NetBegins meaning stands_after state (planned meaning state 1 1 (r ∷ [])) (transports_of (r ∷ [])) stations
-      → LiveStands meaning stands_after state p (record { stations = stations; room = MAX_FED - 1; ends = false; told = 0; consumed = 0 })
+      → LiveStands meaning stands_after state p (record { stations = stations; room = MAX_FED - 1; ends = false; delivered = 0; front = []; gone = 0; consumed = 0 })
   starts stations begins =
       let n = begins.stands in
       let one = one-of stations.nodes.parts.items n.keeps.count in
@@ -104,7 +105,10 @@ module _ {S T : Type 0} (meaning : S → Meaning) (stands_after : S → List Eve
             window = own (λ h. (state h.transport).window ≡ p.window) (ap (λ (t : T). (state t).window) head.2.transport_is);
             unclosed = own IsUnclosed (λ _. head.2.closed);
           };
-          told_within = omega arith;
+        };
+        handed = record {
+          events = record { before = []; rest = tail_of p; in_order = refl; delivered_is = refl; handed_is = sym (ap (λ (ps : List (ChannelPartView S T)). handed_in ps) one.1 ∙ keeps.handed) };
+          gone_is = sym (ap (λ (ps : List (ChannelPartView S T)). gone_in ps) one.1 ∙ ap (λ (x : ℕ × Bool). x.0) keeps.gone);
           consumed_within = omega arith;
         };
         executors = n.executors;
@@ -115,7 +119,7 @@ module _ {S T : Type 0} (meaning : S → Meaning) (stands_after : S → List Eve
 
   -- So it does where the net is that of a world with this channel alone.
   pub starts-from : (executors : ℕ) (channels : List (Recorded S T)) (net stations : Stations (Channels S T)) → executors ≡ 1 → channels ≡ r ∷ [] → stations ≡ net
-      → NetBegins meaning stands_after state (planned meaning state 1 executors channels) (transports_of channels) net → LiveStands meaning stands_after state p (record { stations = stations; room = MAX_FED - 1; ends = false; told = 0; consumed = 0 })
+      → NetBegins meaning stands_after state (planned meaning state 1 executors channels) (transports_of channels) net → LiveStands meaning stands_after state p (record { stations = stations; room = MAX_FED - 1; ends = false; delivered = 0; front = []; gone = 0; consumed = 0 })
   starts-from executors channels net stations one only same begins = starts stations (
       subst (λ (x : ℕ × List (Recorded S T) × Stations (Channels S T)). NetBegins meaning stands_after state (planned meaning state 1 x.0 x.1) (transports_of x.1) x.2) (λ i. (one i, only i, sym same i)) begins
       )

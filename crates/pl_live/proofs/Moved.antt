@@ -1,5 +1,5 @@
 -- A move of its head, with the direct calls that follow, leads from one stand of a live channel to the next.
-use Rattle.std.proofs.Common.{◌≡◌, ℕ, ◌≤◌, Bool, false, List, [], ◌∷◌, length, Option, Some, sym, ap, ◌∙◌, arith}
+use Rattle.std.proofs.Common.{◌≡◌, ℕ, ◌≤◌, Bool, false, List, [], ◌∷◌, length, Option, Some, sym, ap, subst, ◌∙◌, arith}
 use Rattle.std.specs.Prelude.{vec_len}
 use Rattle.std.specs.Option.{option_map_or}
 use Rattle.pl_event.specs.declared.events.Event.{Event}
@@ -10,21 +10,23 @@ use Rattle.pl_context.specs.declared.standing.Took.{Took}
 use Rattle.pl_context.specs.OutputsViews.{OutputsView}
 use Rattle.pl_context.specs.TailViews.{TailView}
 use Rattle.pl_context.specs.WaitingViews.{Entry}
-use Rattle.pl_head.specs.HeadStand.{HeadView}
+use Rattle.pl_head.specs.HeadStand.{HeadView, gone_of}
 use Rattle.pl_head.specs.InputStand.{steps_left}
 use Rattle.pl_head.specs.Transports.{TransportState}
 use Rattle.pl_net.specs.Nets.{StationsView, StationsStand, WorksListOff}
 use Rattle.pl_net.specs.Stations.{stations_view}
 use Rattle.pl_net.specs.declared.stations.Stations.{Stations}
 use Rattle.pl_net.proofs.StationSteps.{rest-stands}
-use Rattle.pl_part.specs.Parts.{ChannelPartView, SamePart, PartTakes}
+use Rattle.pl_part.specs.Parts.{ChannelPartView, SamePart, PartTakes, part_gone}
+use Rattle.pl_part.specs.Paths.{path_handed_over}
 use Rattle.pl_channel.specs.Channels.{HasMoved, home_of}
 use Rattle.pl_channel.specs.Lanes.{world_of}
 use Rattle.pl_replay.specs.Moves.{nodes_view, nodes_stand, nodes_take}
 use Rattle.pl_replay.specs.declared.channels.Channels.{Channels}
 use Rattle.pl_replay.proofs.Kept.{settles-keep}
 use Rattle.pl_world.specs.Plans.{ChannelPlan}
-use Rattle.pl_live.specs.LiveStand.{LiveView, LiveStands, GoesByPlan, alone, accepted_in, head_in, left_in, open_in, parts_of, recorded_in}
+use Rattle.pl_world.specs.Reports.{tail_of}
+use Rattle.pl_live.specs.LiveStand.{LiveView, LiveStands, GoesByPlan, HandsOut, alone, accepted_in, gone_in, handed_in, head_in, left_in, open_in, parts_of, recorded_in}
 use Rattle.pl_live.proofs.Followed.{Follows, follows-self, follows-on, one-moved, takes-go}
 
 -- ---- what a channel that is alone shows
@@ -32,6 +34,15 @@ use Rattle.pl_live.proofs.Followed.{Follows, follows-self, follows-on, one-moved
 module _ {S T : Type 0} (part : ChannelPartView S T) (parts : List (ChannelPartView S T)) (is : parts ≡ part ∷ []) where
   pub head-in : head_in parts ≡ part.head
   head-in = ap (λ (ps : List (ChannelPartView S T)). head_in ps) is
+
+  pub handed-at : handed_in parts ≡ path_handed_over part.path
+  handed-at = ap (λ (ps : List (ChannelPartView S T)). handed_in ps) is
+
+  pub gone-in : gone_in parts ≡ (part_gone part).0
+  gone-in = ap (λ (ps : List (ChannelPartView S T)). gone_in ps) is
+
+  pub gone-at : (h : HeadView T) → part.head ≡ Some h → gone_in parts ≡ h.gone
+  gone-at h at = gone-in ∙ ap (λ (o : Option (HeadView T)). (option_map_or (λ (x : HeadView T). gone_of x) o (0, false)).0) at
 
   pub recorded-at : (t : TailView) → part.path.tail ≡ Some t → recorded_in parts ≡ t.events
   recorded-at t at = ap (λ (ps : List (ChannelPartView S T)). recorded_in ps) is ∙ ap (λ (o : Option TailView). option_map_or (λ (x : TailView). x.events) o []) at
@@ -76,7 +87,7 @@ module _ {S T : Type 0} (meaning : S → Meaning) (stands_after : S → List Eve
   settled-on ends first x c c' w is g = settles-keep (nodes_view meaning) (nodes_take meaning stands_after is_spent state) (FollowOn ends first) (takes-on ends first) x c c' w (first, is, g, follows-self first)
 
   module _ (live : LiveView S T) (s : LiveStands meaning stands_after state p live) (does : ChannelPartView S T → OutputsView → ChannelPartView S T → OutputsView → Type 0) (stations' : Stations (Channels S T))
-      (runs : Ran meaning stands_after is_spent state does live stations') (rests : stations'.work.items ≡ []) (count : vec_len stations'.executors ≡ vec_len live.stations.executors) where
+      (runs : Ran meaning stands_after is_spent state does live stations') (rests : stations'.work.items ≡ []) (count : vec_len stations'.stations ≡ vec_len live.stations.stations) where
     abbrev part : ChannelPartView S T
     part = s.goes.part
 
@@ -104,21 +115,25 @@ module _ {S T : Type 0} (meaning : S → Meaning) (stands_after : S → List Eve
           settles = λ goes. settled-on live.ends m.0 (home_of (parts_of live) 0) (record (stations_view live.stations s.backlogs) { nodes = g.nodes; work = g.work }) (stations_view stations' ran.0) g.settles m.1 goes;
         }
 
-    -- Where at least as much was recorded and accepted, it stands after the move.
+    -- Where nothing was handed over or forgotten, and at least as much accepted, it stands after the move.
     pub stands-moved : (now : ChannelPartView S T) → stations'.nodes.parts.items ≡ now ∷ [] → GoesByPlan meaning stands_after state p live.ends now
-        → length (recorded_in (parts_of live)) ≤ length (recorded_in stations'.nodes.parts.items) → length (accepted_in state (parts_of live)) ≤ length (accepted_in state stations'.nodes.parts.items)
+        → path_handed_over now.path ≡ path_handed_over part.path → part_gone now ≡ part_gone part → length (accepted_in state (parts_of live)) ≤ length (accepted_in state stations'.nodes.parts.items)
         → LiveStands meaning stands_after state p (record live { stations = stations' })
-    stands-moved now is goes recorded accepted =
-        let told = s.goes.told_within in
-        let consumed = s.goes.consumed_within in
+    stands-moved now is goes handed gone accepted =
+        let consumed = s.handed.consumed_within in
         record {
           ruled = s.ruled;
           small = s.small;
           thrifty_inbound = s.thrifty_inbound;
           thrifty_outbound = s.thrifty_outbound;
           fed = s.fed;
-          goes = record { part = now; is_alone = is; by_plan = goes; told_within = omega (arith, told, recorded); consumed_within = omega (arith, consumed, accepted) };
-          executors = sym stations'.executors.ok.0 ∙ count ∙ live.stations.executors.ok.0 ∙ s.executors;
+          goes = record { part = now; is_alone = is; by_plan = goes };
+          handed = record {
+            events = subst (λ (n : ℕ). HandsOut (tail_of p) live.delivered live.front n) (handed-at part (parts_of live) s.goes.is_alone ∙ sym (handed-at now stations'.nodes.parts.items is ∙ handed)) s.handed.events;
+            gone_is = s.handed.gone_is ∙ gone-in part (parts_of live) s.goes.is_alone ∙ ap (λ (x : ℕ × Bool). x.0) (sym gone) ∙ sym (gone-in now stations'.nodes.parts.items is);
+            consumed_within = omega (arith, consumed, accepted);
+          };
+          executors = sym stations'.stations.ok.0 ∙ count ∙ live.stations.stations.ok.0 ∙ s.executors;
           backlogs = ran.0;
           stands = rest-stands (nodes_view meaning) (nodes_stand meaning stands_after state) (world_of false (alone p)) (home_of (parts_of live) 0) 0 (stations_view stations' ran.0) rests ran.1;
           rests = rests;

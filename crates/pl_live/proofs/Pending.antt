@@ -1,11 +1,11 @@
 -- What of a live channel's output and of its tail's record is still to be handed out.
-use Rattle.std.proofs.Common.{◌≡◌, ℕ, zero, suc, ◌-◌, ◌≤◌, Bool, true, false, List, [], ◌∷◌, ◌++◌, length, take, drop, Option, Some, None, sym, ap, ◌∙◌, arith}
+use Rattle.std.proofs.Common.{◌≡◌, ℕ, suc, ◌+◌, ◌-◌, ◌<◌, ◌≤◌, Bool, true, false, List, [], ◌∷◌, ◌++◌, length, take, drop, Option, Some, None, refl, sym, ap, subst, ◌∙◌, arith, length-append, append_assoc}
 use Rattle.std.specs.Prelude.{is_some, slice_get, ◌||◌}
 use Rattle.std.specs.Option.{option_map_or}
-use Rattle.std.proofs.lemmas.Option.{none-some}
 use Rattle.std.proofs.lemmas.Bool.{or_left}
 use Rattle.std.proofs.lemmas.List.{length-drop, take-append-drop, take-append-le, take_all}
 use Rattle.pl_event.specs.declared.events.Event.{Event}
+use Rattle.pl_event.specs.declared.limits.TheConstants.{MAX_ITEMS}
 use Rattle.pl_event.specs.Meaning.{Meaning}
 use Rattle.pl_event.proofs.Lists.{some-of}
 use Rattle.pl_context.specs.declared.standing.Standing.TheVariants as stand
@@ -19,10 +19,11 @@ use Rattle.pl_part.specs.Parts.{ChannelPartView, part_standing}
 use Rattle.pl_part.proofs.Standings.{sound-head}
 use Rattle.pl_world.specs.Plans.{ChannelPlan}
 use Rattle.pl_world.specs.Reports.{head_of, tail_of}
-use Rattle.pl_live.specs.LiveStand.{LiveView, LiveStands, LiveRests, IsSettled, IsSound, IsWritten, accepted_in, head_in, parts_of, recorded_in, tail_in}
+use Rattle.pl_live.specs.LiveStand.{LiveView, LiveStands, LiveRests, HandsOut, IsSettled, IsSound, IsWritten, accepted_in, consumed_of, handed_in, head_in, parts_of, recorded_in, tail_in}
 use Rattle.pl_live.proofs.CaughtUp.{accepted-begins, all-recorded, all-written, head-ended, recorded-begins, tail-ended}
-use Rattle.pl_live.proofs.LiveEnds.{held-head}
-use Rattle.pl_live.proofs.Moved.{accepted-at, head-in, recorded-at}
+use Rattle.pl_live.proofs.LiveEnds.{held-head, held-tail, to-tail, took}
+use Rattle.pl_live.proofs.Moved.{accepted-at, gone-at, handed-at, head-in, recorded-at}
+use Rattle.pl_live.proofs.Changed.{record-next}
 
 -- ---- what is read of the two ends
 
@@ -62,28 +63,53 @@ module _ {S T : Type 0} (meaning : S → Meaning) (stands_after : S → List Eve
   recorded-is : recorded_in (parts_of live) ≡ tail.0.events
   recorded-is = recorded-at part (parts_of live) s.goes.is_alone tail.0 tail.1
 
+  -- what is gone of the output, and how much that is
+  abbrev gone : List ℕ
+  gone = out (took meaning stands_after state p live s head.0 head.1).gone
+
+  gone-size : live.gone ≡ length gone
+  gone-size = s.handed.gone_is ∙ gone-at part (parts_of live) s.goes.is_alone head.0 head.1 ∙ (took meaning stands_after state p live s head.0 head.1).bytes
+
+  take-behind : (xs ys : List ℕ) (n : ℕ) → take (length xs + n) (xs ++ ys) ≡ xs ++ take n ys
+  take-behind [] ys n = let same : 0 + n ≡ n = omega arith in ap (λ (m : ℕ). take m ys) same
+  take-behind (x ∷ xs) ys n =
+      let same : length (x ∷ xs) + n ≡ suc (length xs + n) = omega arith in
+      ap (λ (m : ℕ). take m (x ∷ (xs ++ ys))) same ∙ ap (λ (zs : List ℕ). x ∷ zs) (take-behind xs ys n)
+
   -- What was accepted and not consumed comes next in the output.
-  pub next-bytes : (rest : List ℕ) × (take live.consumed (out (head_of p)) ++ drop live.consumed (accepted_in state (parts_of live)) ++ rest ≡ out (head_of p))
+  pub next-bytes : (rest : List ℕ) × (take (consumed_of live) (out (head_of p)) ++ drop live.consumed (accepted_in state (parts_of live)) ++ rest ≡ out (head_of p))
   next-bytes =
       let accepted = accepted_in state (parts_of live) in
       let begins = accepted-begins meaning stands_after state p live s head.0 head.1 in
-      let whole : accepted ++ begins.0 ≡ out (head_of p) = ap (λ (l : List ℕ). l ++ begins.0) accepted-is ∙ begins.1 in
-      let first : take live.consumed (out (head_of p)) ≡ take live.consumed accepted = ap (λ (l : List ℕ). take live.consumed l) (sym whole) ∙ take-append-le live.consumed accepted begins.0 s.goes.consumed_within in (
+      let whole : gone ++ accepted ++ begins.0 ≡ out (head_of p) = ap (λ (l : List ℕ). gone ++ l ++ begins.0) accepted-is ∙ begins.1 in
+      let first : take (consumed_of live) (out (head_of p)) ≡ gone ++ take live.consumed accepted =
+      ap (λ (l : List ℕ). take (consumed_of live) l) (sym whole ∙ append_assoc gone accepted begins.0) ∙ ap (λ (n : ℕ). take (n + live.consumed) (gone ++ (accepted ++ begins.0))) gone-size
+      ∙ take-behind gone (accepted ++ begins.0) live.consumed ∙ ap (λ (l : List ℕ). gone ++ l) (take-append-le live.consumed accepted begins.0 s.handed.consumed_within) in (
         begins.0,
         ap (λ (l : List ℕ). l ++ drop live.consumed accepted ++ begins.0) first
-            ∙ ap (λ (l : List ℕ). l ++ begins.0) (take-append-drop live.consumed accepted) ∙ whole,
+            ∙ ap (λ (l : List ℕ). l ++ begins.0) (append_assoc gone (take live.consumed accepted) (drop live.consumed accepted))
+            ∙ ap (λ (l : List ℕ). gone ++ l ++ begins.0) (take-append-drop live.consumed accepted)
+            ∙ whole,
       )
 
-  -- What the tail recorded comes first of what it is to record.
-  pub next-event : (event : Event) → slice_get (recorded_in (parts_of live)) live.told ≡ Some event → slice_get (tail_of p) live.told ≡ Some event
-  next-event event at =
+  -- how many events the tail has handed over
+  handed-count : handed_in (parts_of live) ≡ tail.0.handed
+  handed-count = handed-at part (parts_of live) s.goes.is_alone ∙ ap (λ (o : Option TailView). option_map_or (λ (t : TailView). t.handed) o 0) tail.1
+
+  -- its tail gets few events
+  pub few-events : length (tail_of p) < MAX_ITEMS
+  few-events =
+      let few = (held-tail meaning stands_after state p live s tail.0 tail.1).holds.few in
+      let same = ap (λ (es : List Event). length es) (to-tail meaning stands_after state p live s tail.0 tail.1) in
+      omega (arith, few, same)
+
+  -- Where the tail hands its record over, what that holds is next.
+  pub record-handed : live.front ≡ [] → HandsOut (tail_of p) live.delivered (recorded_in (parts_of live)) (handed_in (parts_of live) + length (recorded_in (parts_of live)))
+  record-handed none =
       let begins = recorded-begins meaning stands_after state p live s tail.0 tail.1 in
-      ap (λ (l : List Event). slice_get l live.told) (sym begins.1 ∙ ap (λ (l : List Event). l ++ begins.0) (sym recorded-is)) ∙ slice_get-front (recorded_in (parts_of live)) begins.0 live.told event at
-    where
-      slice_get-front : (xs ys : List Event) (i : ℕ) (x : Event) → slice_get xs i ≡ Some x → slice_get (xs ++ ys) i ≡ Some x
-      slice_get-front [] ys i x e = absurd (none-some x e)
-      slice_get-front (y ∷ xs) ys zero x e = e
-      slice_get-front (y ∷ xs) ys (suc i) x e = slice_get-front xs ys i x e
+      let held = (held-tail meaning stands_after state p live s tail.0 tail.1).holds in
+      record-next (tail_of p) live.delivered (handed_in (parts_of live)) (subst (λ (front : List Event). HandsOut (tail_of p) live.delivered front (handed_in (parts_of live))) none s.handed.events) held.gone (recorded_in (parts_of live)) (held.handed ∙ sym handed-count)
+      (begins.0, ap (λ (es : List Event). (held.gone ++ es) ++ begins.0) recorded-is ∙ begins.1)
 
 -- ---- a channel that rests, of which nothing has failed and all output was consumed
 
@@ -102,18 +128,32 @@ module _ {S T : Type 0} (meaning : S → Meaning) (stands_after : S → List Eve
   settled h there = r.settled h size (head-in stands.goes.part (parts_of live) stands.goes.is_alone ∙ there) consumed (sound-head stands.goes.part sound-part h there).0 window
 
   -- All output was sent,
-  pub all-sent : live.consumed ≡ length (out (head_of p))
+  pub all-sent : consumed_of live ≡ length (out (head_of p))
   all-sent =
       let done = settled its-head.0 its-head.1 in
-      consumed ∙ ap (λ (l : List ℕ). length l)
-      (accepted-is meaning stands_after state p live stands ∙ all-written meaning stands_after state p live stands sound its-head.0 its-head.1 done.all_read (stands.goes.by_plan.unclosed its-head.0 its-head.1) done.written)
+      let size = gone-size meaning stands_after state p live stands in
+      let held = ap (λ (l : List ℕ). length l) (accepted-is meaning stands_after state p live stands) in
+      let parts = length-append (gone meaning stands_after state p live stands) (state its-head.0.transport).accepted in
+      let all = ap (λ (l : List ℕ). length l) (all-written meaning stands_after state p live stands sound its-head.0 its-head.1 done.all_read (stands.goes.by_plan.unclosed its-head.0 its-head.1) done.written) in
+      omega (arith, size, consumed, held, parts, all)
 
-  -- and the tail has recorded all.
-  pub all-told : recorded_in (parts_of live) ≡ tail_of p
-  all-told =
+  -- and all events were handed out, where none is left to be.
+  pub all-delivered : live.front ≡ [] → recorded_in (parts_of live) ≡ [] → live.delivered ≡ length (tail_of p)
+  all-delivered none empty =
       let last = tail meaning stands_after state p live stands in
       let done = settled its-head.0 its-head.1 in
-      recorded-is meaning stands_after state p live stands ∙ all-recorded meaning stands_after state p live stands sound its-head.0 its-head.1 done.all_read last.0 last.1
+      let held = (held-tail meaning stands_after state p live stands last.0 last.1).holds in
+      let events = stands.handed.events in
+      let whole = ap (λ (es : List Event). length es) (all-recorded meaning stands_after state p live stands sound its-head.0 its-head.1 done.all_read last.0 last.1) in
+      let parts = length-append held.gone last.0.events in
+      let none-held = ap (λ (es : List Event). length es) (sym (recorded-is meaning stands_after state p live stands) ∙ empty) in
+      let count = held.handed in
+      let handed = handed-count meaning stands_after state p live stands in
+      let delivered = events.delivered_is in
+      let front = ap (λ (es : List Event). length es) none in
+      let all = events.handed_is in
+      let both = length-append events.before live.front in
+      omega (arith, whole, parts, none-held, count, handed, delivered, front, all, both)
 
   -- Where the end was said, both ends have taken it, and no flushed byte waits.
   pub record IsOver (t : TailView) (h : HeadView T) : Type 0 where

@@ -9,7 +9,6 @@ use Rattle.pl_event.specs.Meaning.{Meaning}
 use Rattle.pl_event.specs.Worlds.{World}
 use Rattle.pl_event.proofs.Lists.{some-of}
 use Rattle.pl_context.specs.WaitingViews.{Entry}
-use Rattle.pl_context.specs.TailViews.{TailView}
 use Rattle.pl_flow.specs.declared.moves.HeadMove.{HeadMove}
 use Rattle.pl_flow.specs.declared.moves.HeadMove.TheVariants as by
 use Rattle.pl_head.specs.HeadStand.{HeadView, is_idle, is_read_held}
@@ -27,7 +26,7 @@ use Rattle.pl_replay.specs.Moves.{nodes_view, nodes_stand, nodes_take, nodes_mov
 use Rattle.pl_replay.specs.declared.channels.Channels.{Channels}
 use Rattle.pl_world.specs.Plans.{ChannelPlan}
 use Rattle.pl_live.specs.LiveStand.{LiveView, LiveStands, IsSettled, IsWritten, head_in, left_in, open_in, parts_of}
-use Rattle.pl_live.proofs.Moved.{Ran, accepted-at, head-in, has-moved, left-at, open-at, recorded-at, stands-moved}
+use Rattle.pl_live.proofs.Moved.{Ran, accepted-at, head-in, has-moved, left-at, open-at, stands-moved}
 use Rattle.pl_live.proofs.Reading.{reads-go, steps-left}
 
 module _ {S T : Type 0} (meaning : S → Meaning) (stands_after : S → List Event → Type 0) (is_spent : S → Bool) (state : T → TransportState) (may_refuse : T → ℕ → Type 0) where
@@ -58,10 +57,7 @@ module _ {S T : Type 0} (meaning : S → Meaning) (stands_after : S → List Eve
     abbrev pub head : (h : HeadView T) × (part.head ≡ Some h)
     head = some-of part.head s.goes.by_plan.has_head
 
-    abbrev pub tail : (t : TailView) × (part.path.tail ≡ Some t)
-    tail = some-of part.path.tail s.goes.by_plan.has_tail
-
-    pub is-read : (stations' : Stations (Channels S T)) → Runs live by.Read stations' → stations'.work.items ≡ [] → vec_len stations'.executors ≡ vec_len live.stations.executors
+    pub is-read : (stations' : Stations (Channels S T)) → Runs live by.Read stations' → stations'.work.items ≡ [] → vec_len stations'.stations ≡ vec_len live.stations.stations
         → (left_in (parts_of live) ≡ 0 → live.ends ≡ true) → IsRead p live stations'
     is-read stations' runs rests count more =
         let m = has-moved meaning stands_after is_spent state p live s (Made by.Read) stations' (ran live by.Read stations' runs) rests count in
@@ -70,16 +66,12 @@ module _ {S T : Type 0} (meaning : S → Meaning) (stands_after : S → List Eve
         let r = reads-go meaning stands_after state may_refuse p live.ends part m.then live.stations.work m.after m.same s.goes.by_plan m.moved (λ none. more (was-left ∙ none)) in
         let on = m.settles r.goes in
         let now = on.3.head r.h' r.is in
-        let ended = on.3.tail tail.0 (ap (λ (path : _). path.tail) r.path ∙ tail.1) in
         let left : left_in stations'.nodes.parts.items ≡ steps_left r.h'.input = left-at on.0 stations'.nodes.parts.items on.1 now.0 now.1 ∙ ap (λ (i : InputView). steps_left i) now.2 in
         let least = r.read.least in
         let most = r.read.most in
-        let longer = ended.2 in
-        let record-was = ap (λ (l : List Event). length l) (recorded-at part (parts_of live) alone tail.0 tail.1) in
-        let record-is = ap (λ (l : List Event). length l) (recorded-at on.0 stations'.nodes.parts.items on.1 ended.0 ended.1) in
         let bytes = ap (λ (l : List ℕ). length l) (accepted-at part (parts_of live) alone state head.0 head.1 ∙ ap (λ (t : T). (state t).accepted) (sym (now.3 ∙ r.read.transport)) ∙ sym (accepted-at on.0 stations'.nodes.parts.items on.1 state now.0 now.1)) in
         record {
-          stands = stands-moved meaning stands_after is_spent state p live s (Made by.Read) stations' (ran live by.Read stations' runs) rests count on.0 on.1 on.2 (omega (arith, longer, record-was, record-is)) (omega (arith, bytes));
+          stands = stands-moved meaning stands_after is_spent state p live s (Made by.Read) stations' (ran live by.Read stations' runs) rests count on.0 on.1 on.2 (on.3.handed ∙ m.same.path.handed) (on.3.gone ∙ m.same.gone) (omega (arith, bytes));
           read = elim r.read.read [
             | inl closed ↦ inl (open-at on.0 stations'.nodes.parts.items on.1 now.0 now.1 ∙ ap (λ (i : InputView). i.port.is_open) now.2 ∙ closed)
             | inr one ↦ inr (omega (arith, one, left, was-left))

@@ -7,7 +7,6 @@ use Rattle.pl_event.specs.declared.events.Event.{Event}
 use Rattle.pl_event.specs.declared.outcomes.Cause.{Cause}
 use Rattle.pl_event.specs.Meaning.{Meaning}
 use Rattle.pl_context.specs.OutputsViews.{OutputsView}
-use Rattle.pl_context.specs.TailViews.{TailView}
 use Rattle.pl_flow.specs.declared.moves.HeadMove.TheVariants as by
 use Rattle.pl_head.specs.declared.heads.OutStep.{OutStep}
 use Rattle.pl_head.specs.declared.heads.OutStep.TheVariants as step
@@ -23,9 +22,9 @@ use Rattle.pl_channel.specs.Channels.{MayWrite}
 use Rattle.pl_replay.specs.declared.channels.Channels.{Channels}
 use Rattle.pl_world.specs.Plans.{ChannelPlan}
 use Rattle.pl_live.specs.LiveStand.{LiveView, LiveStands, IsWritten, ReadsSame, accepted_in, head_in, parts_of}
-use Rattle.pl_live.proofs.Moved.{accepted-at, head-in, has-moved, left-at, open-at, recorded-at, stands-moved}
+use Rattle.pl_live.proofs.Moved.{accepted-at, head-in, has-moved, left-at, open-at, stands-moved}
 use Rattle.pl_live.proofs.Reading.{writes-go}
-use Rattle.pl_live.proofs.ReadMoves.{Made, Runs, head, ran, tail}
+use Rattle.pl_live.proofs.ReadMoves.{Made, Runs, head, ran}
 use Rattle.pl_live.proofs.Sent.{offers-some}
 
 -- ---- a head
@@ -82,29 +81,22 @@ module _ {S T : Type 0} (meaning : S → Meaning) (stands_after : S → List Eve
     abbrev own : (h : HeadView T) × (part.head ≡ Some h)
     own = head meaning stands_after is_spent state may_refuse p live s
 
-    abbrev last : (t : TailView) × (part.path.tail ≡ Some t)
-    last = tail meaning stands_after is_spent state may_refuse p live s
-
     at : slice_get (parts_of live) 0 ≡ Some part
     at = ap (λ (ps : List (ChannelPartView S T)). slice_get ps 0) s.goes.is_alone
 
-    pub is-offered : (stations' : Stations (Channels S T)) → Runs meaning stands_after is_spent state may_refuse live by.Out stations' → stations'.work.items ≡ [] → vec_len stations'.executors ≡ vec_len live.stations.executors → IsOffered p live stations'
+    pub is-offered : (stations' : Stations (Channels S T)) → Runs meaning stands_after is_spent state may_refuse live by.Out stations' → stations'.work.items ≡ [] → vec_len stations'.stations ≡ vec_len live.stations.stations → IsOffered p live stations'
     is-offered stations' runs rests count =
         let m = has-moved meaning stands_after is_spent state p live s (Made meaning stands_after is_spent state may_refuse by.Out) stations' (ran meaning stands_after is_spent state may_refuse live by.Out stations' runs) rests count in
         let alone = s.goes.is_alone in
         let r = writes-go meaning stands_after state may_refuse p live.ends part m.then live.stations.work m.after m.same s.goes.by_plan m.moved in
         let on = m.settles r.goes in
         let now = on.3.head r.h' r.is in
-        let ended = on.3.tail last.0 (ap (λ (path : _). path.tail) r.path ∙ last.1) in
-        let longer = ended.2 in
-        let record-was = ap (λ (l : List Event). length l) (recorded-at part (parts_of live) alone last.0 last.1) in
-        let record-is = ap (λ (l : List Event). length l) (recorded-at on.0 stations'.nodes.parts.items on.1 ended.0 ended.1) in
         let bytes-was = ap (λ (l : List ℕ). length l) (accepted-at part (parts_of live) alone state own.0 own.1) in
         let bytes-are = ap (λ (l : List ℕ). length l) (accepted-at on.0 stations'.nodes.parts.items on.1 state now.0 now.1 ∙ ap (λ (t : T). (state t).accepted) now.3) in
         let more = grows state may_refuse own.0 r.h' live.stations.work m.after r.answer r.made r.wrote in
         let took = ((s.stands.hold.parts 0 part at).holds.head own.0 own.1).0.holds.took in
         record {
-          stands = stands-moved meaning stands_after is_spent state p live s (Made meaning stands_after is_spent state may_refuse by.Out) stations' (ran meaning stands_after is_spent state may_refuse live by.Out stations' runs) rests count on.0 on.1 on.2 (omega (arith, longer, record-was, record-is)) (omega (arith, more, bytes-was, bytes-are));
+          stands = stands-moved meaning stands_after is_spent state p live s (Made meaning stands_after is_spent state may_refuse by.Out) stations' (ran meaning stands_after is_spent state may_refuse live by.Out stations' runs) rests count on.0 on.1 on.2 (on.3.handed ∙ m.same.path.handed) (on.3.gone ∙ m.same.gone) (omega (arith, more, bytes-was, bytes-are));
           reads =
               let input : now.0.input ≡ own.0.input = now.2 ∙ ap (λ (x : HeadView T). x.input) r.wrote.same in (
                 left-at on.0 stations'.nodes.parts.items on.1 now.0 now.1 ∙ ap (λ (i : InputView). steps_left i) input ∙ sym (left-at part (parts_of live) alone own.0 own.1),

@@ -1,5 +1,5 @@
 -- How a live channel stands: what it was fed, what its nodes have made of that, and what of it was handed out.
-use Rattle.std.specs.Prelude.{◌≡◌, ℕ, suc, ◌+◌, ◌≤◌, List, [], ◌∷◌, length, slice_get, All, Bool, true, false, not, ◌&&◌, ◌||◌, ◌==◌, is_some, Option, Some, None, if◌then◌else◌}
+use Rattle.std.specs.Prelude.{◌≡◌, ℕ, suc, ◌+◌, ◌≤◌, List, [], ◌∷◌, ◌++◌, length, slice_get, All, Bool, true, false, not, ◌&&◌, ◌||◌, ◌==◌, is_some, Option, Some, None, if◌then◌else◌}
 use Rattle.std.specs.Option.{option_map_or}
 use Rattle.pl_event.specs.declared.events.Event.{Event}
 use Rattle.pl_event.specs.declared.outcomes.Cause.{Cause}
@@ -15,26 +15,35 @@ use Rattle.pl_head.specs.HeadStand.{HeadView, HeadStandsAfter, ReadsStand, is_id
 use Rattle.pl_head.specs.InputStand.{fed_plan, steps_left, takes_bursts}
 use Rattle.pl_head.specs.Marks.{Change}
 use Rattle.pl_head.specs.Transports.{TransportState}
-use Rattle.pl_part.specs.Parts.{ChannelPartView, head_hop, part_standing}
+use Rattle.pl_part.specs.Parts.{ChannelPartView, head_hop, part_gone, part_standing}
+use Rattle.pl_part.specs.Paths.{path_handed_over}
 use Rattle.pl_net.specs.Nets.{StationsStand}
 use Rattle.pl_net.specs.Stations.{stations_view}
 use Rattle.pl_net.specs.declared.stations.Stations.{Stations}
 use Rattle.pl_world.specs.Plans.{ChannelPlan, Plan, tail_hop, planned_head_hop}
 use Rattle.pl_world.specs.PlanRules.{IsPlan, IsSmallChannel}
+use Rattle.pl_world.specs.Reports.{tail_of}
 use Rattle.pl_channel.specs.Lanes.{world_of}
 use Rattle.pl_channel.specs.Feeding.{MeansPlan}
 use Rattle.pl_replay.specs.Moves.{nodes_view, nodes_stand}
 use Rattle.pl_replay.specs.declared.channels.Channels.{Channels}
 use Rattle.pl_live.specs.declared.live.TheConstants.{MAX_FED}
 
--- a live channel: its nodes, how much may still be fed, whether the end is to come, and how many events of the tail and bytes
--- of the output were handed out
+-- A live channel: its nodes, how much may still be fed, and whether the end is to come. Of its tail's events so many were
+-- handed out, and these are next. Of its output so many bytes are gone, and of those that its transport holds so many were
+-- consumed.
 pub record LiveView (S T : Type 0) : Type 0 where
   pub stations : Stations (Channels S T)
   pub room : ℕ
   pub ends : Bool
-  pub told : ℕ
+  pub delivered : ℕ
+  pub front : List Event
+  pub gone : ℕ
   pub consumed : ℕ
+
+-- how many bytes of its output were consumed
+abbrev pub consumed_of : {S T : Type 0} → LiveView S T → ℕ
+consumed_of live = live.gone + live.consumed
 
 -- the plan of a channel that is alone, on one executor
 abbrev pub alone : ChannelPlan → Plan
@@ -50,11 +59,19 @@ head_in parts = option_map_or (λ (part : ChannelPartView _ _). part.head) (slic
 abbrev pub tail_in : {S T : Type 0} → List (ChannelPartView S T) → Option TailView
 tail_in parts = option_map_or (λ (part : ChannelPartView _ _). part.path.tail) (slice_get parts 0) None
 
--- what the tail has recorded
+-- what the tail holds of its record
 abbrev pub recorded_in : {S T : Type 0} → List (ChannelPartView S T) → List Event
 recorded_in parts = option_map_or (λ (t : TailView). t.events) (tail_in parts) []
 
--- what the transport has accepted
+-- how many events the tail has handed over
+abbrev pub handed_in : {S T : Type 0} → List (ChannelPartView S T) → ℕ
+handed_in parts = option_map_or (λ (part : ChannelPartView _ _). path_handed_over part.path) (slice_get parts 0) 0
+
+-- how many bytes of the output are gone
+abbrev pub gone_in : {S T : Type 0} → List (ChannelPartView S T) → ℕ
+gone_in parts = (option_map_or (λ (part : ChannelPartView _ _). part_gone part) (slice_get parts 0) (0, false)).0
+
+-- what the transport holds of what it has accepted
 abbrev pub accepted_in : {S T : Type 0} → (T → TransportState) → List (ChannelPartView S T) → List ℕ
 accepted_in state parts = option_map_or (λ (h : HeadView _). (state h.transport).accepted) (head_in parts) []
 
@@ -69,6 +86,18 @@ open_in parts = option_map_or (λ (h : HeadView _). h.input.port.is_open) (head_
 -- what a live channel has: its part, alone
 abbrev pub parts_of : {S T : Type 0} → LiveView S T → List (ChannelPartView S T)
 parts_of live = live.stations.nodes.parts.items
+
+-- ---- what is gone
+
+-- Of these events so many were handed out, and then these are next. Together they are as many as were handed over.
+pub record HandsOut (events : List Event) (delivered : ℕ) (front : List Event) (handed : ℕ) : Type 0 where
+  pub before : List Event
+  pub rest : List Event
+  pub in_order : (before ++ front) ++ rest ≡ events
+  pub delivered_is : length before ≡ delivered
+  pub handed_is : length (before ++ front) ≡ handed
+
+-- ---- what was fed
 
 -- A head reads what its channel was fed. It has read so many steps, the end only after it was said to come; and only a failure
 -- of its own closes its reads before that.
@@ -131,24 +160,30 @@ module _ {S T : Type 0} (meaning : S → Meaning) (stands_after : S → List Eve
     -- an end or a failure that the head noted only once it had failed by itself
     pub unclosed : (h : HeadView T) → part.head ≡ Some h → IsUnclosed h
 
-  -- So do those of a channel that is alone. At least so many events were recorded and so many bytes accepted.
-  pub record GoesAlone (p : ChannelPlan) (ends : Bool) (told consumed : ℕ) (parts : List (ChannelPartView S T)) : Type 0 where
+  -- So do those of a channel that is alone.
+  pub record GoesAlone (p : ChannelPlan) (ends : Bool) (parts : List (ChannelPartView S T)) : Type 0 where
     pub part : ChannelPartView S T
     pub is_alone : parts ≡ part ∷ []
     pub by_plan : GoesByPlan p ends part
-    pub told_within : told ≤ length (recorded_in parts)
-    pub consumed_within : consumed ≤ length (accepted_in state parts)
+
+  -- The events that were handed out of a live channel, and those that are next to be, begin what its plan says. So many bytes are
+  -- gone, and as many as were consumed are held, or more.
+  pub record HasHanded (p : ChannelPlan) (live : LiveView S T) : Type 0 where
+    pub events : HandsOut (tail_of p) live.delivered live.front (handed_in (parts_of live))
+    pub gone_is : live.gone ≡ gone_in (parts_of live)
+    pub consumed_within : live.consumed ≤ length (accepted_in state (parts_of live))
 
   -- A live channel stands at the plan of what it was fed. Its nodes, on one executor, stand in the world of that plan, with
-  -- nothing on its way; and as many events and bytes were handed out as it says.
+  -- nothing on its way; and the events and bytes that were handed out are the first that the plan says.
   pub record LiveStands (p : ChannelPlan) (live : LiveView S T) : Type 0 where
     pub ruled : IsPlan (alone p)
     pub small : IsSmallChannel p
     pub thrifty_inbound : All IsThrifty p.inbound
     pub thrifty_outbound : All IsThrifty p.outbound
     pub fed : weight (recorded_input p.bursts) + live.room ≡ MAX_FED
-    pub goes : GoesAlone p live.ends live.told live.consumed (parts_of live)
-    pub executors : length live.stations.executors.items ≡ 1
+    pub goes : GoesAlone p live.ends (parts_of live)
+    pub handed : HasHanded p live
+    pub executors : length live.stations.stations.items ≡ 1
     pub backlogs : ℕ → List (Entry Unit)
     pub stands : StationsStand (nodes_view meaning) (nodes_stand meaning stands_after state) (world_of false (alone p)) 0 (stations_view live.stations backlogs)
     pub rests : live.stations.work.items ≡ []

@@ -13,7 +13,7 @@ ghost use Rattle.pl_head.specs.Writes.{out};
 ghost use Rattle.pl_world.specs.declared.worlds.WorldRefusal.TheVariants as refusal;
 ghost use Rattle.pl_world.specs.Limits.{is_placed};
 ghost use Rattle.pl_world.specs.Plans.{ChannelPlan, channel_planned};
-ghost use Rattle.pl_world.specs.Reports.{KeepsToPlan, tail_of, head_of, whole_report};
+ghost use Rattle.pl_world.specs.Reports.{tail_of, head_of};
 ghost use Rattle.pl_world.specs.Worlds.{IsUncalled};
 ghost use Rattle.pl_channel.specs.Feeding.{fed_channel};
 ghost use Rattle.pl_replay.specs.Reported.{HasEnds};
@@ -21,17 +21,17 @@ ghost use Rattle.pl_live.specs.declared.faults.FeedFault.TheVariants as fault;
 
 use crate::faults::FeedFault;
 use pl_build::Placed;
-use pl_channel::report;
 use pl_context::Tail;
 use pl_event::{Cause, Element, Event, Sequence};
 use pl_flow::HeadMove;
-use pl_head::{Head, ReadPlan, Transport};
-use pl_net::Stations;
+use pl_head::{Draining, Head, ReadPlan};
+use pl_net::{NoWatch, Stations};
 use pl_part::ChannelPart;
 use pl_replay::{Channels, Net};
 use pl_stages::Thrifty;
-use pl_world::{ChannelReport, World, WorldRefusal, bytes_left};
-use std::alloc::{AllocError, Global};
+use pl_world::{World, WorldRefusal, bytes_left};
+use std::alloc::Global;
+use std::collections::VecDeque;
 use std::marker::Model;
 
 /// How much a channel may ever be fed: bytes, elements and bursts, each counted as one, and one for its start.
@@ -40,37 +40,46 @@ pub const MAX_FED: usize = 1_073_741_823;
 /// From how many bytes that are to be consumed on the transport is offered no more.
 const ENOUGH: usize = 65_536;
 
+/// From how many bytes, or outcomes, that are held on no burst is read before all of the output was consumed.
+const LADEN: usize = 1_048_576;
+
 /// A channel that lives: it is fed bursts as they come in, gives the bytes that its handlers write, and the events that
 /// reach its tail. All its handlers are on the thread that calls it. (Netty's `EmbeddedChannel`, by what it is for.)
 ///
 /// What holds of it is said by the plan of what it was fed: whichever way that was cut into bursts and calls, the events and
-/// the bytes that were handed out begin what the handlers, composed on lists, make of all that was fed.
+/// the bytes that were handed out begin what the handlers, composed on lists, make of all that was fed. What was handed out is
+/// forgotten.
 #[derive(Drop)]
-pub struct Live<S: Thrifty, T: Transport> {
+pub struct Live<S: Thrifty, T: Draining> {
+    alloc: Global,
     stations: Stations<Channels<S, T>>,
     /// How much may still be fed.
     room: usize,
     /// The end comes, behind the bursts that are left.
     ends: bool,
-    /// How many events of the tail's record were handed out.
-    told: usize,
-    /// How many of the bytes that the transport accepted were consumed.
+    /// How many events were handed out.
+    delivered: usize,
+    /// The events that are next to be, which the tail has handed over.
+    front: VecDeque<Event>,
+    /// How many of the bytes that were consumed are gone.
+    gone: usize,
+    /// How many of those that the transport holds were consumed.
     consumed: usize,
 }
 
-impl<S: Thrifty, T: Transport> Model for Live<S, T> {
+impl<S: Thrifty, T: Draining> Model for Live<S, T> {
     ghost use Rattle.pl_world.specs.Plans.{ChannelPlan};
     ghost use Rattle.pl_live.specs.LiveStand.{LiveView, LiveStands};
 
     ghost Value = { LiveView S T };
 
-    ghost view = { λ l. record { stations = l.stations; room = l.room; ends = l.ends; told = l.told; consumed = l.consumed } };
+    ghost view = { λ l. record { stations = l.stations; room = l.room; ends = l.ends; delivered = l.delivered; front = l.front.items; gone = l.gone; consumed = l.consumed } };
 
-    ghost invariant = { λ l. (p : ChannelPlan) × LiveStands S.meaning S.stands_after T.state p (record { stations = l.stations; room = l.room; ends = l.ends; told = l.told; consumed = l.consumed }) };
+    ghost invariant = { λ l. (p : ChannelPlan) × LiveStands S.meaning S.stands_after T.state p (record { stations = l.stations; room = l.room; ends = l.ends; delivered = l.delivered; front = l.front.items; gone = l.gone; consumed = l.consumed }) };
 }
 
-impl<S: Thrifty, T: Transport> Live<S, T> {
-    ghost use Rattle.pl_live.specs.LiveStand.{LiveStands, LiveRests, IsSound, IsWritten, ReadsSame, live_cause, may_take, wants_burst, parts_of, head_in, tail_in, accepted_in, recorded_in, left_in, open_in};
+impl<S: Thrifty, T: Draining> Live<S, T> {
+    ghost use Rattle.pl_live.specs.LiveStand.{LiveStands, LiveRests, IsSound, IsWritten, ReadsSame, consumed_of, live_cause, may_take, wants_burst, parts_of, head_in, tail_in, accepted_in, recorded_in, left_in, open_in};
 
     /// A channel with this pipeline and transport, which has become active and was fed nothing. The pipeline is on executor 0,
     /// as one without groups is.
@@ -79,7 +88,7 @@ impl<S: Thrifty, T: Transport> Live<S, T> {
     pub fn new(alloc: Global, pipeline: Placed<S>, transport: T) -> Result<Self, WorldRefusal>
         requires uncalled { IsUncalled (T.state transport) }
         ensures rests { IfOk result (λ live. LiveRests S.meaning S.stands_after T.state (channel_planned S.meaning T.state (record { pipeline = pipeline; input = record { bursts = []; abort_after = None }; transport = transport })) live) }
-        ensures started { IfOk result (λ live. (live.told ≡ 0) × (live.consumed ≡ 0) × (live.ends ≡ false)) }
+        ensures started { IfOk result (λ live. (live.delivered ≡ 0) × (consumed_of live ≡ 0) × (live.ends ≡ false)) }
         ensures limit { result ≡ Err refusal.Limit → is_placed 1 pipeline ≡ false }
         ensures allowed { OnOk result (is_placed 1 pipeline ≡ true) }
     {
@@ -97,10 +106,13 @@ impl<S: Thrifty, T: Transport> Live<S, T> {
             return Err(WorldRefusal::Memory);
         };
         let mut live = Live {
+            alloc,
             stations: net.into_stations(),
             room: MAX_FED - 1,
             ends: false,
-            told: 0,
+            delivered: 0,
+            front: VecDeque::new(alloc),
+            gone: 0,
             consumed: 0,
         };
         live.advance();
@@ -114,7 +126,7 @@ impl<S: Thrifty, T: Transport> Live<S, T> {
     /// `Full` where more would have been fed than `MAX_FED`; `Memory`.
     pub fn feed(&mut self, burst: Sequence<Element>) -> Result<(), FeedFault>
         ensures fed { OnOk result ((p : ChannelPlan) → LiveRests S.meaning S.stands_after T.state p self.old → LiveRests S.meaning S.stands_after T.state (fed_channel burst p) self.new) }
-        ensures handed { (self.new.told ≡ self.old.told) × (self.new.consumed ≡ self.old.consumed) × (self.new.ends ≡ self.old.ends) }
+        ensures handed { (self.new.delivered ≡ self.old.delivered) × (consumed_of self.new ≡ consumed_of self.old) × (self.new.ends ≡ self.old.ends) }
         ensures allowed { OnOk result ((self.old.ends ≡ false) × (may_take self.old ≡ true)) }
         ensures closed { result ≡ Err fault.Closed → self.old.ends ≡ false → may_take self.old ≡ false }
         ensures full { result ≡ Err fault.Full → self.old.room < weight (burst_events burst) }
@@ -128,6 +140,7 @@ impl<S: Thrifty, T: Transport> Live<S, T> {
         };
         self.stations.nodes.parts[0].feed(burst)?;
         self.room = room;
+        self.forget();
         self.advance();
         Ok(())
     }
@@ -136,7 +149,7 @@ impl<S: Thrifty, T: Transport> Live<S, T> {
     /// changes nothing.
     pub fn end(&mut self)
         ensures rests { (p : ChannelPlan) → LiveRests S.meaning S.stands_after T.state p self.old → LiveRests S.meaning S.stands_after T.state p self.new }
-        ensures handed { (self.new.told ≡ self.old.told) × (self.new.consumed ≡ self.old.consumed) }
+        ensures handed { (self.new.delivered ≡ self.old.delivered) × (consumed_of self.new ≡ consumed_of self.old) }
         ensures ends { self.new.ends ≡ true }
     {
         self.ends = true;
@@ -159,56 +172,59 @@ impl<S: Thrifty, T: Transport> Live<S, T> {
         ensures pending { result.now ≡ drop self.now.consumed (accepted_in T.state (parts_of self.now)) }
         ensures within { self.now.consumed + length result.now ≡ length (accepted_in T.state (parts_of self.now)) }
         // They are what comes behind the bytes consumed, of what the handlers write of all that was fed.
-        ensures next { (p : ChannelPlan) → LiveStands S.meaning S.stands_after T.state p self.now → (rest : List ℕ) × (take self.now.consumed (out (head_of p)) ++ result.now ++ rest ≡ out (head_of p)) }
+        ensures next { (p : ChannelPlan) → LiveStands S.meaning S.stands_after T.state p self.now → (rest : List ℕ) × (take (consumed_of self.now) (out (head_of p)) ++ result.now ++ rest ≡ out (head_of p)) }
         // And nothing that is due stays inside.
-        ensures all { (p : ChannelPlan) (w : ℕ) → LiveRests S.meaning S.stands_after T.state p self.now → IsSound self.now → p.window ≡ Some (suc w) → result.now ≡ [] → self.now.consumed ≡ length (out (head_of p)) }
+        ensures all { (p : ChannelPlan) (w : ℕ) → LiveRests S.meaning S.stands_after T.state p self.now → IsSound self.now → p.window ≡ Some (suc w) → result.now ≡ [] → consumed_of self.now ≡ length (out (head_of p)) }
     {
         &self.head().bytes()[self.consumed..]
     }
 
-    /// Consumes the first bytes of `pending_output`: they were sent. What waited for that is read and offered then.
+    /// Consumes the first bytes of `pending_output`: they were sent, and are forgotten once all are. What waited for that is read
+    /// and offered then.
     pub fn consume(&mut self, count: usize)
         requires within { self.old.consumed + count ≤ length (accepted_in T.state (parts_of self.old)) }
         ensures rests { (p : ChannelPlan) → LiveRests S.meaning S.stands_after T.state p self.old → LiveRests S.meaning S.stands_after T.state p self.new }
-        ensures consumed { self.new.consumed ≡ self.old.consumed + count }
-        ensures handed { (self.new.told ≡ self.old.told) × (self.new.ends ≡ self.old.ends) }
+        ensures consumed { consumed_of self.new ≡ consumed_of self.old + count }
+        ensures handed { (self.new.delivered ≡ self.old.delivered) × (self.new.ends ≡ self.old.ends) }
     {
         let pending = self.accepted() - self.consumed;
         prove!(count <= pending);
         self.consumed += count;
+        self.forget();
         self.advance();
     }
 
-    /// Hands out the next event that reached the tail, each once and in order; None where none is left.
-    ///
-    /// Error: no memory for it. It is handed out by a later call.
-    pub fn next_event(&mut self) -> Result<Option<Event>, AllocError>
-        ensures next { (event : Event) → result ≡ Ok (Some event) → (p : ChannelPlan) → LiveStands S.meaning S.stands_after T.state p self.old → slice_get (tail_of p) self.old.told ≡ Some event }
-        ensures told { (event : Event) → result ≡ Ok (Some event) → self.new.told ≡ self.old.told + 1 }
-        ensures none { result ≡ Ok None → (self.new ≡ self.old) × (self.old.told ≡ length (recorded_in (parts_of self.old))) }
-        ensures kept { OnErr result (self.new ≡ self.old) }
-        ensures all { result ≡ Ok None → (p : ChannelPlan) (w : ℕ) → LiveRests S.meaning S.stands_after T.state p self.old → IsSound self.old → p.window ≡ Some (suc w)
-            → self.old.consumed ≡ length (accepted_in T.state (parts_of self.old)) → self.old.told ≡ length (tail_of p) }
+    /// Hands out the next event that reached the tail, each once and in order; None where none is left. It takes no memory.
+    pub fn next_event(&mut self) -> Option<Event>
+        ensures next { (event : Event) → result ≡ Some event → (p : ChannelPlan) → LiveStands S.meaning S.stands_after T.state p self.old → slice_get (tail_of p) self.old.delivered ≡ Some event }
+        ensures delivered { (event : Event) → result ≡ Some event → self.new.delivered ≡ self.old.delivered + 1 }
+        ensures none { result ≡ None → (self.new ≡ self.old) × (self.old.front ≡ []) × (recorded_in (parts_of self.old) ≡ []) }
+        ensures all { result ≡ None → (p : ChannelPlan) (w : ℕ) → LiveRests S.meaning S.stands_after T.state p self.old → IsSound self.old → p.window ≡ Some (suc w)
+            → self.old.consumed ≡ length (accepted_in T.state (parts_of self.old)) → self.old.delivered ≡ length (tail_of p) }
         ensures rests { (p : ChannelPlan) → LiveRests S.meaning S.stands_after T.state p self.old → LiveRests S.meaning S.stands_after T.state p self.new }
-        ensures same { self.new ≡ record self.old { told = self.new.told } }
+        ensures handed { (consumed_of self.new ≡ consumed_of self.old) × (self.new.ends ≡ self.old.ends) }
     {
-        let record = self.tail().record();
-        if self.told == record.len() {
-            return Ok(None);
-        }
-        let event = record[self.told].clone()?;
-        self.told += 1;
-        Ok(Some(event))
+        self.fill_front();
+        let event = self.front.pop_front()?;
+        self.delivered += 1;
+        Some(event)
     }
 
-    /// What became of the channel so far: a copy, and it goes on.
-    pub fn report(&self, alloc: Global) -> Result<ChannelReport, AllocError>
-        ensures keeps { IfOk result (λ report. (p : ChannelPlan) → LiveStands S.meaning S.stands_after T.state p self.now → KeepsToPlan p report) }
-        // It is the whole report where the end was said, nothing has failed, and all output was consumed.
-        ensures whole { IfOk result (λ report. (p : ChannelPlan) (w : ℕ) → LiveRests S.meaning S.stands_after T.state p self.now → IsSound self.now → p.window ≡ Some (suc w) → self.now.ends ≡ true
-            → self.now.consumed ≡ length (accepted_in T.state (parts_of self.now)) → report ≡ whole_report p) }
+    /// Takes the tail's record, where none is left of the one before and it has some.
+    fn fill_front(&mut self)
+        ensures stands { (p : ChannelPlan) → LiveStands S.meaning S.stands_after T.state p self.old → LiveStands S.meaning S.stands_after T.state p self.new }
+        ensures rests { (p : ChannelPlan) → LiveRests S.meaning S.stands_after T.state p self.old → LiveRests S.meaning S.stands_after T.state p self.new }
+        ensures same { self.new ≡ record self.old { stations = self.new.stations; front = self.new.front } }
+        ensures none { self.new.front ≡ [] → (self.new ≡ self.old) × (recorded_in (parts_of self.old) ≡ []) }
     {
-        report(alloc, self.tail(), self.head())
+        if !self.front.is_empty() {
+            return;
+        }
+        if self.tail().record().is_empty() {
+            return;
+        }
+        let events = self.stations.nodes.parts[0].take_record(self.alloc);
+        self.front = VecDeque::from(events.into_vec());
     }
 
     /// Why something has failed: a node of the channel, or a growth that was refused. None where nothing has.
@@ -259,6 +275,31 @@ impl<S: Thrifty, T: Transport> Live<S, T> {
         !self.part().standing().is_over() && self.head().takes_bursts()
     }
 
+    /// Forgets what was consumed, where that is all that the transport holds and no flushed message waits, and the outcomes of those
+    /// writes.
+    fn forget(&mut self)
+        ensures stands { (p : ChannelPlan) → LiveStands S.meaning S.stands_after T.state p self.old → LiveStands S.meaning S.stands_after T.state p self.new }
+        ensures same { self.new ≡ record self.old { stations = self.new.stations; gone = self.new.gone; consumed = self.new.consumed } }
+        ensures consumed { consumed_of self.new ≡ consumed_of self.old }
+    {
+        if self.consumed < self.accepted() {
+            return;
+        }
+        if !self.stations.nodes.parts[0].forget() {
+            return;
+        }
+        self.gone = self.stations.nodes.parts[0].gone();
+        self.consumed = 0;
+    }
+
+    /// Whether so much of what was sent is held that no burst is read before all of it was consumed.
+    fn is_laden(&self) -> bool
+        ensures { result ≡ true → self.now.consumed < length (accepted_in T.state (parts_of self.now)) }
+    {
+        let accepted = self.accepted();
+        self.consumed < accepted && (accepted >= LADEN || self.head().outcomes().len() >= LADEN)
+    }
+
     /// Reads what was fed, the end too where that is to come, each burst once nothing holds it; and offers the transport what
     /// waits.
     fn advance(&mut self)
@@ -267,6 +308,9 @@ impl<S: Thrifty, T: Transport> Live<S, T> {
     {
         for _ in 0..self.head().steps_left() {
             self.write_out();
+            if self.is_laden() {
+                return;
+            }
             if !self.read() {
                 return;
             }
@@ -301,7 +345,7 @@ impl<S: Thrifty, T: Transport> Live<S, T> {
         ensures unmoved { result ≡ false → self.new ≡ self.old }
         ensures held { result ≡ false → (open_in (parts_of self.old) ≡ false) ⊎ ((0 < left_in (parts_of self.old)) × ((h : HeadView T) → head_in (parts_of self.old) ≡ Some h → IsWritten T.state h → ⊥)) }
     {
-        self.stations.move_head(HeadMove::Read, 0)
+        self.stations.move_head(HeadMove::Read, 0, &mut NoWatch)
     }
 
     /// Offers the transport what waits, until nothing does, or so many bytes are to be consumed that no more is offered.
@@ -333,10 +377,10 @@ impl<S: Thrifty, T: Transport> Live<S, T> {
             → IsWritten T.state h }
     {
         let accepted = self.accepted();
-        self.stations.move_head(HeadMove::Out, 0) && self.accepted() > accepted
+        self.stations.move_head(HeadMove::Out, 0, &mut NoWatch) && self.accepted() > accepted
     }
 
-    /// How many bytes the transport has accepted.
+    /// How many bytes the transport holds.
     fn accepted(&self) -> usize
         ensures { result ≡ length (accepted_in T.state (parts_of self.now)) }
     {

@@ -13,6 +13,7 @@ use Rattle.pl_world.specs.declared.session.Session.{Session}
 use Rattle.pl_world.specs.Plans.{ChannelPlan}
 use Rattle.pl_world.specs.PlanRules.{IsChannelPlan}
 use Rattle.pl_world.specs.Worlds.{IsWorld}
+use Rattle.pl_live.specs.LiveStand.{consumed_of}
 use Rattle.pl_live_c.specs.declared.channels.Channel.{Channel}
 use Rattle.pl_live_c.specs.Channels.{IsToBeFed, IsAlone, RecordsAs, OpensAs, RestsAt, session_planned, recorded_planned}
 
@@ -58,12 +59,12 @@ module _ (session : Session) where
 -- the channel that is opened with the pipeline and the transport of that one
 pub opened : (text : List ℕ) (r : Recorded Handler MemoryTransportView) (c : Channel) → RecordsAs text r
     → RestsAt (recorded_planned (record { pipeline = r.pipeline; input = record { bursts = []; abort_after = None }; transport = r.transport })) c.live
-    → (c.live.told ≡ 0) × (c.live.consumed ≡ 0) × (c.live.ends ≡ false) → OpensAs text c
+    → (c.live.delivered ≡ 0) × (consumed_of c.live ≡ 0) × (c.live.ends ≡ false) → OpensAs text c
 opened text r c records rests started = record {
   plan = recorded_planned r;
   planned = records.planned;
   rests = subst (λ (p : ChannelPlan). RestsAt p c.live) (λ i. record (recorded_planned r) { bursts = sym records.planned.to_be_fed.bursts i; abort_after = sym records.planned.to_be_fed.abort_after i }) rests;
-  told = started.0;
+  delivered = started.0;
   consumed = started.1;
   ends = started.2;
 }

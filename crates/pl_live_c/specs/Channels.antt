@@ -15,7 +15,7 @@ use Rattle.pl_world.specs.Plans.{ChannelPlan, Plan, channel_planned}
 use Rattle.pl_world.specs.Sessions.{plan_of}
 use Rattle.pl_world.specs.Worlds.{IsUncalled}
 use Rattle.pl_text.specs.SessionTexts.{session_of}
-use Rattle.pl_live.specs.LiveStand.{LiveView, LiveRests, accepted_in, parts_of, head_in, tail_in, wants_burst}
+use Rattle.pl_live.specs.LiveStand.{LiveView, LiveRests, accepted_in, consumed_of, parts_of, head_in, tail_in, wants_burst}
 use Rattle.pl_live_c.specs.declared.channels.Channel.{Channel}
 
 -- a channel rests, between two calls, at the plan of what it was fed
@@ -83,6 +83,6 @@ pub record OpensAs (text : List ℕ) (c : Channel) : Type 0 where
   pub plan : ChannelPlan
   pub planned : IsPlanOf text plan
   pub rests : RestsAt plan c.live
-  pub told : c.live.told ≡ 0
-  pub consumed : c.live.consumed ≡ 0
+  pub delivered : c.live.delivered ≡ 0
+  pub consumed : consumed_of c.live ≡ 0
   pub ends : c.live.ends ≡ false

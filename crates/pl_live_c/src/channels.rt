@@ -11,13 +11,13 @@ ghost use Rattle.pl_world.specs.Plans.{ChannelPlan};
 ghost use Rattle.pl_world.specs.Reports.{head_of};
 ghost use Rattle.pl_text.specs.declared.faults.SessionFault.TheVariants as session_fault;
 ghost use Rattle.pl_live.specs.declared.faults.FeedFault.TheVariants as feed_fault;
-ghost use Rattle.pl_live.specs.LiveStand.{IsSound, may_take};
+ghost use Rattle.pl_live.specs.LiveStand.{IsSound, consumed_of, may_take};
 ghost use Rattle.pl_live_c.specs.declared.channels.OpenFault.TheVariants as open_fault;
 ghost use Rattle.pl_live_c.specs.Channels.{RestsAt, OpensAs, RecordsAs, IsNoSession, IsNotToBeFed, IsToBeFed, IsAlone, session_planned, pending};
 
 use pl_event::{ByteString, Element, Sequence};
 use pl_head::{MemoryTransport, ReadPlan};
-use pl_live::{FeedFault, Live};
+use pl_live::{FeedFault, Live, MAX_FED};
 use pl_stages::Handler;
 use pl_text::{SessionFault, read_session};
 use pl_world::{Recorded, Session, WorldRefusal};
@@ -82,20 +82,35 @@ impl Channel {
         Box::new(alloc, Channel { live }).map_err(|_| OpenFault::Memory)
     }
 
-    /// Feeds bytes, as one burst of one chunk. They are copied once.
+    /// Feeds bytes, as one burst of one chunk. They are copied once. The events that reach the tail are dropped.
     ///
     /// Errors, which leave the channel as it was: those of `Live::feed`.
     pub(crate) fn feed(&mut self, alloc: Global, bytes: &[u8]) -> Result<(), FeedFault>
         ensures fed { OnOk result ((p : ChannelPlan) → RestsAt p self.old.live
             → RestsAt (fed_channel (Chunk bytes.now ∷ []) p) self.new.live) }
-        ensures handed { (self.new.live.told ≡ self.old.live.told) × (self.new.live.consumed ≡ self.old.live.consumed) × (self.new.live.ends ≡ self.old.live.ends) }
+        ensures handed { (consumed_of self.new.live ≡ consumed_of self.old.live) × (self.new.live.ends ≡ self.old.live.ends) }
         ensures allowed { OnOk result ((self.old.live.ends ≡ false) × (may_take self.old.live ≡ true)) }
         ensures closed { result ≡ Err feed_fault.Closed → self.old.live.ends ≡ false → may_take self.old.live ≡ false }
         ensures full { result ≡ Err feed_fault.Full → self.old.live.room < weight (burst_events (Chunk bytes.now ∷ [])) }
         ensures kept { OnErr result (self.new ≡ self.old) }
     {
         let burst = burst_of(alloc, bytes)?;
-        self.live.feed(burst)
+        self.live.feed(burst)?;
+        self.drop_events();
+        Ok(())
+    }
+
+    /// Drops the events that reached the tail: C reads none.
+    fn drop_events(&mut self)
+        ensures rests { (p : ChannelPlan) → RestsAt p self.old.live → RestsAt p self.new.live }
+        ensures handed { (consumed_of self.new.live ≡ consumed_of self.old.live) × (self.new.live.ends ≡ self.old.live.ends) }
+    {
+        for _ in 0..MAX_FED {
+            let Some(event) = self.live.next_event() else {
+                return;
+            };
+            drop(event);
+        }
     }
 
     /// Copies the next bytes of the output to the front of `into`, as many as there are and there is room for, and consumes
@@ -103,9 +118,9 @@ impl Channel {
     pub(crate) fn take_output(&mut self, into: &mut [u8]) -> usize
         ensures count { result ≡ min (length (pending self.old.live)) (length into.old) }
         ensures taken { into.new ≡ take result (pending self.old.live) ++ drop result into.old }
-        ensures consumed { self.new.live.consumed ≡ self.old.live.consumed + result }
-        ensures next { (p : ChannelPlan) → RestsAt p self.old.live → (rest : List ℕ) × (take self.old.live.consumed (out (head_of p)) ++ pending self.old.live ++ rest ≡ out (head_of p)) }
-        ensures all { (p : ChannelPlan) (w : ℕ) → RestsAt p self.old.live → IsSound self.old.live → p.window ≡ Some (suc w) → pending self.old.live ≡ [] → self.old.live.consumed ≡ length (out (head_of p)) }
+        ensures consumed { consumed_of self.new.live ≡ consumed_of self.old.live + result }
+        ensures next { (p : ChannelPlan) → RestsAt p self.old.live → (rest : List ℕ) × (take (consumed_of self.old.live) (out (head_of p)) ++ pending self.old.live ++ rest ≡ out (head_of p)) }
+        ensures all { (p : ChannelPlan) (w : ℕ) → RestsAt p self.old.live → IsSound self.old.live → p.window ≡ Some (suc w) → pending self.old.live ≡ [] → consumed_of self.old.live ≡ length (out (head_of p)) }
         ensures rests { (p : ChannelPlan) → RestsAt p self.old.live
             → RestsAt p self.new.live }
     {

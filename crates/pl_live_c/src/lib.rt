@@ -13,7 +13,7 @@ ghost use Rattle.pl_head.specs.Writes.{out};
 ghost use Rattle.pl_channel.specs.Feeding.{fed_channel};
 ghost use Rattle.pl_world.specs.Plans.{ChannelPlan};
 ghost use Rattle.pl_world.specs.Reports.{head_of};
-ghost use Rattle.pl_live.specs.LiveStand.{IsSound, live_cause, may_take, accepted_in, parts_of};
+ghost use Rattle.pl_live.specs.LiveStand.{IsSound, consumed_of, live_cause, may_take, accepted_in, parts_of};
 ghost use Rattle.pl_live.specs.declared.faults.FeedFault.{FeedFault};
 ghost use Rattle.pl_live_c.specs.declared.channels.Channel.{Channel};
 ghost use Rattle.pl_live_c.specs.declared.channels.OpenFault.{OpenFault};
@@ -62,7 +62,7 @@ pub extern "C" fn pl_live_open(alloc: Global, held: &mut Held, text: &[u8]) -> u
 pub extern "C" fn pl_live_feed(alloc: Global, held: &mut Held, bytes: &[u8]) -> u32
     ensures held { is_some held.new.channel ≡ is_some held.old.channel }
     ensures fed { result ≡ OK → (c d : Channel) → held.old.channel ≡ Some c → held.new.channel ≡ Some d → (p : ChannelPlan) → RestsAt p c.live → RestsAt (fed_channel (Chunk bytes.now ∷ []) p) d.live }
-    ensures handed { (c d : Channel) → held.old.channel ≡ Some c → held.new.channel ≡ Some d → (d.live.told ≡ c.live.told) × (d.live.consumed ≡ c.live.consumed) × (d.live.ends ≡ c.live.ends) }
+    ensures handed { (c d : Channel) → held.old.channel ≡ Some c → held.new.channel ≡ Some d → (consumed_of d.live ≡ consumed_of c.live) × (d.live.ends ≡ c.live.ends) }
     ensures kept { (result ≡ OK → ⊥) → held.new.channel ≡ held.old.channel }
     ensures allowed { result ≡ OK → (c : Channel) → held.old.channel ≡ Some c → (c.live.ends ≡ false) × (may_take c.live ≡ true) }
     ensures closed { result ≡ CLOSED → (c : Channel) → held.old.channel ≡ Some c → c.live.ends ≡ false → may_take c.live ≡ false }
@@ -132,11 +132,11 @@ pub extern "C" fn pl_live_take_output(alloc: Global, held: &mut Held, into: &mut
     ensures count { (c : Channel) → held.old.channel ≡ Some c → result ≡ min (length (pending c.live)) (length into.old) }
     ensures taken { (c : Channel) → held.old.channel ≡ Some c → into.new ≡ take result (pending c.live) ++ drop result into.old }
     // They are what comes next of what the handlers write of all that was fed.
-    ensures next { (c : Channel) → held.old.channel ≡ Some c → (p : ChannelPlan) → RestsAt p c.live → (rest : List ℕ) × (take c.live.consumed (out (head_of p)) ++ pending c.live ++ rest ≡ out (head_of p)) }
+    ensures next { (c : Channel) → held.old.channel ≡ Some c → (p : ChannelPlan) → RestsAt p c.live → (rest : List ℕ) × (take (consumed_of c.live) (out (head_of p)) ++ pending c.live ++ rest ≡ out (head_of p)) }
     // And where there are none, nothing that is due stays inside.
     ensures all { result ≡ 0 → 0 < length into.old → (c : Channel) → held.old.channel ≡ Some c → (p : ChannelPlan) (w : ℕ) → RestsAt p c.live → IsSound c.live → p.window ≡ Some (suc w)
-        → c.live.consumed ≡ length (out (head_of p)) }
-    ensures consumed { (c d : Channel) → held.old.channel ≡ Some c → held.new.channel ≡ Some d → d.live.consumed ≡ c.live.consumed + result }
+        → consumed_of c.live ≡ length (out (head_of p)) }
+    ensures consumed { (c d : Channel) → held.old.channel ≡ Some c → held.new.channel ≡ Some d → consumed_of d.live ≡ consumed_of c.live + result }
     ensures rests { (c d : Channel) → held.old.channel ≡ Some c → held.new.channel ≡ Some d → (p : ChannelPlan) → RestsAt p c.live → RestsAt p d.live }
     ensures none { held.old.channel ≡ None → (result ≡ 0) × (into.new ≡ into.old) }
 {

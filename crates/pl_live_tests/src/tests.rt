@@ -2,6 +2,7 @@
 //! from `plain`.
 
 mod abort_tests;
+mod billion_tests;
 mod closed_tests;
 mod cutting;
 mod equal_tests;

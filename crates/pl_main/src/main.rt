@@ -2,28 +2,28 @@
 //! standard output.
 #![tactic(auto)]
 
-use pl_tool::{refuse_words, run_tool};
+use pl_tool::{refuse_args, run_tool};
 use std::process::ExitCode;
 use std::{env, io};
 
-/// The words of the command line.
-fn words(rt: &HostRuntime) -> io::Result<Vec<String>> {
-    let words = env::args(rt)?.collect(rt.alloc())?;
-    Ok(words)
+/// The arguments of the command line.
+fn args(rt: &HostRuntime) -> io::Result<Vec<String>> {
+    let args = env::args(rt)?.collect(rt.alloc())?;
+    Ok(args)
 }
 
 /// Runs the program, and ends with its status.
 fn main(rt: HostRuntime) -> ExitCode {
-    let status = match words(&rt) {
-        Ok(words) => run_tool(
+    let status = match args(&rt) {
+        Ok(args) => run_tool(
             &rt,
             rt.alloc(),
-            words.as_slice(),
+            args.as_slice(),
             &mut rt.stdin(),
             &mut rt.stdout(),
             &mut rt.stderr(),
         ),
-        Err(error) => refuse_words(&error, &mut rt.stderr()),
+        Err(error) => refuse_args(&error, &mut rt.stderr()),
     };
     ExitCode::from(status)
 }

@@ -77,21 +77,21 @@ entry-there world v x es backlogs work runs y t i entry own at same =
 -- ---- a queue that gets memory
 
 module _ {N : Type 0} (view_of : N → NodesView) (stands : World → N → Type 0) (world : World) (x : ℕ) (c : StationsView N) (h : StationsStand view_of stands world x c)
-    (t : ℕ) (es' : List StationView) (b b' : StationView) (r : Replaces c.executors es' t b b') (queue : b'.queue ≡ b.queue) (waiting : b'.waiting ≡ b.waiting) where
+    (t : ℕ) (es' : List StationView) (b b' : StationView) (r : Replaces c.stations es' t b b') (queue : b'.queue ≡ b.queue) (waiting : b'.waiting ≡ b.waiting) where
   abbrev pub roomy : StationsView N
-  roomy = record { nodes = c.nodes; executors = es'; backlogs = c.backlogs; work = c.work }
+  roomy = record { nodes = c.nodes; stations = es'; backlogs = c.backlogs; work = c.work }
 
-  pub queues-same : (y : ℕ) → queue_at es' y ≡ queue_at c.executors y
-  queues-same y = on-executor c.executors es' t b b' r (λ (z : StationView). z.queue) [] queue y
+  pub queues-same : (y : ℕ) → queue_at es' y ≡ queue_at c.stations y
+  queues-same y = on-executor c.stations es' t b b' r (λ (z : StationView). z.queue) [] queue y
 
-  pub stops-alike : (y z : ℕ) → stops_at es' y z ≡ stops_at c.executors y z
-  stops-alike y z = on-executor c.executors es' t b b' r (λ (w : StationView). stops_for w.waiting z) (no_stops 0) (ap (λ w. stops_for w z) waiting) y
+  pub stops-alike : (y z : ℕ) → stops_at es' y z ≡ stops_at c.stations y z
+  stops-alike y z = on-executor c.stations es' t b b' r (λ (w : StationView). stops_for w.waiting z) (no_stops 0) (ap (λ w. stops_for w z) waiting) y
 
-  held : (y : ℕ) (e : StationView) → slice_get es' y ≡ Some e → (e' : StationView) × (slice_get c.executors y ≡ Some e') × (e.waiting ≡ e'.waiting)
+  held : (y : ℕ) (e : StationView) → slice_get es' y ≡ Some e → (e' : StationView) × (slice_get c.stations y ≡ Some e') × (e.waiting ≡ e'.waiting)
   held y e at = ⊎_elim
       (λ (s : y ≡ t).
       let is : b' ≡ e = same_Some b' e (sym r.is ∙ ap (slice_get es') (sym s) ∙ at) in
-      (b, ap (slice_get c.executors) s ∙ r.was, ap (λ (z : StationView). z.waiting) (sym is) ∙ waiting))
+      (b, ap (slice_get c.stations) s ∙ r.was, ap (λ (z : StationView). z.waiting) (sym is) ∙ waiting))
       (λ (s : y ≡ t → ⊥). (e, sym (r.others y s) ∙ at, refl))
       (cases_eq y t)
 
@@ -152,20 +152,20 @@ Says es capacity o answer = (e : StationView) (entries : List (Entry (Unit {0}))
     → answer ≡ option_map (λ (z : Entry (Unit {0})). z.target) (find (λ z. has_room es capacity z.target) entries)
 
 module _ {N : Type 0} (view_of : N → NodesView) (stands : World → N → Type 0) (world : World) (x : ℕ) (c : StationsView N) (h : StationsStand view_of stands world x c)
-    (o capacity : ℕ) (within : o < length c.executors) (es : List StationView) (same : es ≡ c.executors) (answer : Option ℕ) (says : Says es capacity o answer) where
-  found : answer ≡ option_map (λ (z : Entry (Unit {0})). z.target) (find (λ z. has_room c.executors capacity z.target) (c.backlogs o))
+    (o capacity : ℕ) (within : o < length c.stations) (es : List StationView) (same : es ≡ c.stations) (answer : Option ℕ) (says : Says es capacity o answer) where
+  pub found : answer ≡ option_map (λ (z : Entry (Unit {0})). z.target) (find (λ z. has_room c.stations capacity z.target) (c.backlogs o))
   found =
       let says' = subst (λ zs. Says zs capacity o answer) same says in
-      elim (slice_get_cases c.executors o).1 [
+      elim (slice_get_cases c.stations o).1 [
         | inl here ↦ says' here.0 (c.backlogs o) here.2 (h.runs.holds o here.0 here.2)
         | inr past ↦ absurd (omega (arith, past.0, within))
       ]
 
-  pub hand-oldest : (t : ℕ) → answer ≡ Some t → IsOldest (has_room c.executors capacity) (c.backlogs o) t
-  hand-oldest t is = oldest-found (has_room c.executors capacity) (c.backlogs o) t (sym is ∙ found)
+  pub hand-oldest : (t : ℕ) → answer ≡ Some t → IsOldest (has_room c.stations capacity) (c.backlogs o) t
+  hand-oldest t is = oldest-found (has_room c.stations capacity) (c.backlogs o) t (sym is ∙ found)
 
-  pub hand-none : answer ≡ None → position (λ (z : Entry (Unit {0})). has_room c.executors capacity z.target) (c.backlogs o) ≡ None
-  hand-none is = none-open (has_room c.executors capacity) (c.backlogs o) (sym is ∙ found)
+  pub hand-none : answer ≡ None → position (λ (z : Entry (Unit {0})). has_room c.stations capacity z.target) (c.backlogs o) ≡ None
+  hand-none is = none-open (has_room c.stations capacity) (c.backlogs o) (sym is ∙ found)
 
-  pub hand-there : (t : ℕ) → answer ≡ Some t → t < length c.executors
-  hand-there t is = let p = hand-oldest t is in entry-there world (view_of c.nodes) x c.executors c.backlogs c.work h.runs o t p.i p.entry p.own_at p.is p.target
+  pub hand-there : (t : ℕ) → answer ≡ Some t → t < length c.stations
+  hand-there t is = let p = hand-oldest t is in entry-there world (view_of c.nodes) x c.stations c.backlogs c.work h.runs o t p.i p.entry p.own_at p.is p.target

@@ -28,7 +28,7 @@ module _ {N : Type 0} (view_of : N → NodesView) (stands : World → N → Type
   v = view_of c.nodes
 
   pub step-written : v.lanes.written e.lane ≡ true
-  step-written = front-written world v x c.executors c.backlogs c.work mid e h.runs front stops
+  step-written = front-written world v x c.stations c.backlogs c.work mid e h.runs front stops
 
   pub step-places : HasPlaces mid.stopped v.lanes.places
   step-places = subst (λ s. HasPlaces s v.lanes.places) (sym stops) h.places
@@ -41,17 +41,17 @@ module _ {N : Type 0} (view_of : N → NodesView) (stands : World → N → Type
 
   module _ (here : v.lanes.target e.lane ≡ x) where
     pub step-number : e.number ≡ v.lanes.taken e.lane
-    step-number = call-number world v x c.executors c.backlogs c.work mid e h.runs front stops here
+    step-number = call-number world v x c.stations c.backlogs c.work mid e h.runs front stops here
 
     pub step-good : IsGood world e
-    step-good = call-good world v x c.executors c.backlogs c.work mid e h.runs front stops here
+    step-good = call-good world v x c.stations c.backlogs c.work mid e h.runs front stops here
 
     pub call-stands : (n' : N) (after : OutputsView) → NodesTake v e mid (view_of n') after → stands world n' → NodesMake world v (v.lanes.target e.lane) mid (view_of n') after
-        → StationsStand view_of stands world x (record { nodes = n'; executors = c.executors; backlogs = c.backlogs; work = after })
+        → StationsStand view_of stands world x (record { nodes = n'; stations = c.stations; backlogs = c.backlogs; work = after })
     call-stands n' after t hold makes = record {
       hold = hold;
       runs =
-          nets-put (called world v x c.executors c.backlogs c.work mid e h.runs front stops here) t.puts t.taken
+          nets-put (called world v x c.stations c.backlogs c.work mid e h.runs front stops here) t.puts t.taken
           (subst (λ k. Makes world (written_by v k) v.lanes.came (view_of n').lanes.came mid after) here makes);
       counts = record {
         added = λ y a at. let n = h.counts.added y a at in let m = t.more in let k = ap length front in omega (arith, n, m, k);
@@ -62,29 +62,29 @@ module _ {N : Type 0} (view_of : N → NodesView) (stands : World → N → Type
 
   -- ---- it is kept for another executor
 
-  module _ (away : v.lanes.target e.lane ≢ x) (es' : List StationView) (a a' : StationView) (r : Replaces c.executors es' x a a') where
+  module _ (away : v.lanes.target e.lane ≢ x) (es' : List StationView) (a a' : StationView) (r : Replaces c.stations es' x a a') where
     pub add-there : v.lanes.target e.lane < length a.waiting.targets
-    add-there = keep-there world v x c.executors c.backlogs c.work mid e h.runs front stops a r.was
+    add-there = keep-there world v x c.stations c.backlogs c.work mid e h.runs front stops a r.was
 
     pub add-placed : HasPlaces (stops_for a.waiting (v.lanes.target e.lane)) (e.lane ∷ [])
-    add-placed = keep-placed world v x c.executors c.backlogs c.work mid e h.runs front stops a r.was
+    add-placed = keep-placed world v x c.stations c.backlogs c.work mid e h.runs front stops a r.was
 
     pub add-few : a.waiting.added + 1 < 2 ^ 64
-    add-few = keep-counts world v x c.executors c.backlogs c.work mid e h.runs front stops a r.was h.counts
+    add-few = keep-counts world v x c.stations c.backlogs c.work mid e h.runs front stops a r.was h.counts
 
     module _ (adds : IsAdded a (v.lanes.target e.lane) e a') where
       abbrev pub kept_by : ℕ → List (Entry (Unit {0}))
-      kept_by = kept world v x c.executors c.backlogs c.work mid e h.runs front stops away es' a a' r adds
+      kept_by = kept world v x c.stations c.backlogs c.work mid e h.runs front stops away es' a a' r adds
 
-      pub keep-stands : StationsStand view_of stands world x (record { nodes = c.nodes; executors = es'; backlogs = kept_by; work = mid })
+      pub keep-stands : StationsStand view_of stands world x (record { nodes = c.nodes; stations = es'; backlogs = kept_by; work = mid })
       keep-stands = record {
         hold = h.hold;
-        runs = keeps world v x c.executors c.backlogs c.work mid e h.runs front stops away es' a a' r adds;
-        counts = keep-few world v x c.executors c.backlogs c.work mid e h.runs front stops away es' a a' r adds h.counts;
+        runs = keeps world v x c.stations c.backlogs c.work mid e h.runs front stops away es' a a' r adds;
+        counts = keep-few world v x c.stations c.backlogs c.work mid e h.runs front stops away es' a a' r adds h.counts;
         places = step-places;
       }
 
-      pub keep-is : (takes : N → Envelope → OutputsView → N → OutputsView → Type 0) → IsKeep view_of takes x c e mid (record { nodes = c.nodes; executors = es'; backlogs = kept_by; work = mid })
+      pub keep-is : (takes : N → Envelope → OutputsView → N → OutputsView → Type 0) → IsKeep view_of takes x c e mid (record { nodes = c.nodes; stations = es'; backlogs = kept_by; work = mid })
       keep-is takes = record {
         away = away;
         nodes = refl;
@@ -102,26 +102,26 @@ module _ {N : Type 0} (view_of : N → NodesView) (stands : World → N → Type
 
 -- The front of the queue of executor x is taken. Nothing is on the list before.
 module _ {N : Type 0} (view_of : N → NodesView) (stands : World → N → Type 0) (world : World) (x : ℕ) (c : StationsView N) (h : StationsStand view_of stands world x c)
-    (es' : List StationView) (a a' : StationView) (r : Replaces c.executors es' x a a') (e : Envelope) (front : a.queue ≡ e ∷ a'.queue) (same : a'.waiting ≡ a.waiting) where
+    (es' : List StationView) (a a' : StationView) (r : Replaces c.stations es' x a a') (e : Envelope) (front : a.queue ≡ e ∷ a'.queue) (same : a'.waiting ≡ a.waiting) where
   pub queued-written : (view_of c.nodes).lanes.written e.lane ≡ true
-  queued-written = task-written world (view_of c.nodes) x c.executors c.backlogs c.work h.runs x es' a a' r e front same
+  queued-written = task-written world (view_of c.nodes) x c.stations c.backlogs c.work h.runs x es' a a' r e front same
 
   pub queued-number : e.number ≡ (view_of c.nodes).lanes.taken e.lane
-  queued-number = task-number world (view_of c.nodes) x c.executors c.backlogs c.work h.runs x es' a a' r e front same
+  queued-number = task-number world (view_of c.nodes) x c.stations c.backlogs c.work h.runs x es' a a' r e front same
 
   pub queued-good : IsGood world e
-  queued-good = task-good world (view_of c.nodes) x c.executors c.backlogs c.work h.runs x es' a a' r e front same
+  queued-good = task-good world (view_of c.nodes) x c.stations c.backlogs c.work h.runs x es' a a' r e front same
 
   pub task-stands : (n' : N) (after : OutputsView) → NodesTake (view_of c.nodes) e c.work (view_of n') after → stands world n' → NodesMake world (view_of c.nodes) ((view_of c.nodes).lanes.target e.lane) c.work (view_of n') after
-      → StationsStand view_of stands world x (record { nodes = n'; executors = es'; backlogs = c.backlogs; work = after })
+      → StationsStand view_of stands world x (record { nodes = n'; stations = es'; backlogs = c.backlogs; work = after })
   task-stands n' after t hold makes = record {
     hold = hold;
     runs =
-        nets-put (tasked world (view_of c.nodes) x c.executors c.backlogs c.work h.runs x es' a a' r e front same) t.puts t.taken
+        nets-put (tasked world (view_of c.nodes) x c.stations c.backlogs c.work h.runs x es' a a' r e front same) t.puts t.taken
         (subst (λ k. Makes world (written_by (view_of c.nodes) k) (view_of c.nodes).lanes.came (view_of n').lanes.came c.work after)
-        (task-target world (view_of c.nodes) x c.executors c.backlogs c.work h.runs x es' a a' r e front same) makes);
+        (task-target world (view_of c.nodes) x c.stations c.backlogs c.work h.runs x es' a a' r e front same) makes);
     counts =
-        let f = task-few world (view_of c.nodes) x c.executors c.backlogs c.work h.runs x es' a a' r e front same h.counts in record {
+        let f = task-few world (view_of c.nodes) x c.stations c.backlogs c.work h.runs x es' a a' r e front same h.counts in record {
           added = λ y b at. let n = f.added y b at in let m = t.more in omega (arith, n, m);
           few = t.puts.few;
         };
@@ -132,7 +132,7 @@ module _ {N : Type 0} (view_of : N → NodesView) (stands : World → N → Type
 
 pub give-stands : {N : Type 0} (view_of : N → NodesView) (stands : World → N → Type 0) (world : World) (x : ℕ) (c : StationsView N) → StationsStand view_of stands world x c
     → (n' : N) (after : OutputsView) → NodesGive (view_of c.nodes) x c.work (view_of n') after → stands world n' → NodesMake world (view_of c.nodes) x c.work (view_of n') after
-    → StationsStand view_of stands world x (record { nodes = n'; executors = c.executors; backlogs = c.backlogs; work = after })
+    → StationsStand view_of stands world x (record { nodes = n'; stations = c.stations; backlogs = c.backlogs; work = after })
 give-stands view_of stands world x c h n' after t hold makes = record {
   hold = hold;
   runs = nets-put h.runs t.puts t.taken makes;
@@ -147,7 +147,7 @@ give-stands view_of stands world x c h n' after t hold makes = record {
 pub rest-stands : {N : Type 0} (view_of : N → NodesView) (stands : World → N → Type 0) (world : World) (x y : ℕ) (c : StationsView N) → c.work.items ≡ [] → StationsStand view_of stands world x c → StationsStand view_of stands world y c
 rest-stands view_of stands world x y c none h = record {
   hold = h.hold;
-  runs = at-rest world (view_of c.nodes) x y c.executors c.backlogs c.work none h.runs;
+  runs = at-rest world (view_of c.nodes) x y c.stations c.backlogs c.work none h.runs;
   counts = h.counts;
   places = h.places;
 }
@@ -185,22 +185,22 @@ module _ {N : Type 0} (view_of : N → NodesView) (stands : World → N → Type
 
 -- The first entry for a target is taken out of a backlog, and its envelope goes to the end of that queue.
 module _ {N : Type 0} (view_of : N → NodesView) (stands : World → N → Type 0) (world : World) (x : ℕ) (c : StationsView N) (h : StationsStand view_of stands world x c)
-    (o t : ℕ) (es2 es3 : List StationView) (a a' b b' : StationView) (r : Replaces c.executors es2 o a a') (s : Replaces es2 es3 t b b') (e : Envelope) (out : IsTakenOut a t (Some e) a')
+    (o t : ℕ) (es2 es3 : List StationView) (a a' b b' : StationView) (r : Replaces c.stations es2 o a a') (s : Replaces es2 es3 t b b') (e : Envelope) (out : IsTakenOut a t (Some e) a')
     (queue : b'.queue ≡ b.queue ++ e ∷ []) (same : b'.waiting ≡ b.waiting) where
   abbrev pub backlogs_left : ℕ → List (Entry (Unit {0}))
-  backlogs_left = left world (view_of c.nodes) x c.executors c.backlogs c.work h.runs o t es2 es3 a a' b b' r s e out queue same
+  backlogs_left = left world (view_of c.nodes) x c.stations c.backlogs c.work h.runs o t es2 es3 a a' b b' r s e out queue same
 
   abbrev pub handed_at : ℕ
-  handed_at = i world (view_of c.nodes) x c.executors c.backlogs c.work h.runs o t es2 es3 a a' b b' r s e out queue same
+  handed_at = i world (view_of c.nodes) x c.stations c.backlogs c.work h.runs o t es2 es3 a a' b b' r s e out queue same
 
   abbrev pub handed_stations : StationsView N
-  handed_stations = record { nodes = c.nodes; executors = es3; backlogs = backlogs_left; work = c.work }
+  handed_stations = record { nodes = c.nodes; stations = es3; backlogs = backlogs_left; work = c.work }
 
   pub hand-stands : StationsStand view_of stands world x handed_stations
   hand-stands = record {
     hold = h.hold;
-    runs = hands world (view_of c.nodes) x c.executors c.backlogs c.work h.runs o t es2 es3 a a' b b' r s e out queue same;
-    counts = hand-few world (view_of c.nodes) x c.executors c.backlogs c.work h.runs o t es2 es3 a a' b b' r s e out queue same h.counts;
+    runs = hands world (view_of c.nodes) x c.stations c.backlogs c.work h.runs o t es2 es3 a a' b b' r s e out queue same;
+    counts = hand-few world (view_of c.nodes) x c.stations c.backlogs c.work h.runs o t es2 es3 a a' b b' r s e out queue same h.counts;
     places = h.places;
   }
 
@@ -213,18 +213,18 @@ module _ {N : Type 0} (view_of : N → NodesView) (stands : World → N → Type
     is = (out.takes (c.backlogs o) (h.runs.holds o a r.was)).taken.2;
     nodes = refl;
     work = refl;
-    queue = queue-own world (view_of c.nodes) x c.executors c.backlogs c.work h.runs o t es2 es3 a a' b b' r s e out queue same;
-    queues = queue-other world (view_of c.nodes) x c.executors c.backlogs c.work h.runs o t es2 es3 a a' b b' r s e out queue same;
+    queue = queue-own world (view_of c.nodes) x c.stations c.backlogs c.work h.runs o t es2 es3 a a' b b' r s e out queue same;
+    queues = queue-other world (view_of c.nodes) x c.stations c.backlogs c.work h.runs o t es2 es3 a a' b b' r s e out queue same;
     backlog = cond-true (o == o) _ _ (eq-eqb o o refl);
     backlogs = λ y other. cond-false (y == o) _ _ (ne_eqb y o other);
-    stops = stops-same world (view_of c.nodes) x c.executors c.backlogs c.work h.runs o t es2 es3 a a' b b' r s e out queue same;
+    stops = stops-same world (view_of c.nodes) x c.stations c.backlogs c.work h.runs o t es2 es3 a a' b b' r s e out queue same;
   }
 
 -- ---- before any move
 
-pub start-stands : {N : Type 0} (view_of : N → NodesView) (stands : World → N → Type 0) (world : World) (x : ℕ) (nodes : N) (executors : List StationView) (work : OutputsView) → stands world nodes → IsStart (view_of nodes) executors
-    → work.items ≡ [] → HasPlaces work.stopped (view_of nodes).lanes.places → StationsStand view_of stands world x (record { nodes = nodes; executors = executors; backlogs = no_backlogs; work = work })
-start-stands view_of stands world x nodes executors work hold s none places = record {
+pub start-stands : {N : Type 0} (view_of : N → NodesView) (stands : World → N → Type 0) (world : World) (x : ℕ) (nodes : N) (stations : List StationView) (work : OutputsView) → stands world nodes → IsStart (view_of nodes) stations
+    → work.items ≡ [] → HasPlaces work.stopped (view_of nodes).lanes.places → StationsStand view_of stands world x (record { nodes = nodes; stations = stations; backlogs = no_backlogs; work = work })
+start-stands view_of stands world x nodes stations work hold s none places = record {
   hold = hold;
   runs = record {
     lanes = λ l w. (
@@ -252,9 +252,9 @@ start-stands view_of stands world x nodes executors work hold s none places = re
   places = places;
 }
   where
-    empty : (y : ℕ) (l : Lane) → on l (queue_at executors y) ≡ []
-    empty y l = by (slice_get executors y) refl
+    empty : (y : ℕ) (l : Lane) → on l (queue_at stations y) ≡ []
+    empty y l = by (slice_get stations y) refl
       where
-        by : (o : Option StationView) → slice_get executors y ≡ o → on l (queue_at executors y) ≡ []
+        by : (o : Option StationView) → slice_get stations y ≡ o → on l (queue_at stations y) ≡ []
         by None at = ap (λ o. on l (option_map_or (λ (e : StationView). e.queue) o [])) at
         by (Some e) at = ap (λ o. on l (option_map_or (λ (e : StationView). e.queue) o [])) at ∙ ap (on l) (s.queues y e at).0

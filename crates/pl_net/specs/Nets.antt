@@ -23,11 +23,11 @@ pub record StationView : Type 0 where
 
 -- the queue of an executor
 abbrev pub queue_at : List StationView → ℕ → List Envelope
-queue_at executors y = option_map_or (λ e. e.queue) (slice_get executors y) []
+queue_at stations y = option_map_or (λ e. e.queue) (slice_get stations y) []
 
 -- the lanes stopped from one executor to another
 abbrev pub stops_at : List StationView → ℕ → ℕ → StopsView
-stops_at executors x y = option_map_or (λ e. stops_for e.waiting y) (slice_get executors x) (no_stops 0)
+stops_at stations x y = option_map_or (λ e. stops_for e.waiting y) (slice_get stations x) (no_stops 0)
 
 -- the envelopes of a backlog, the oldest first
 abbrev pub envelopes : List (Entry Unit) → List Envelope
@@ -42,29 +42,29 @@ pub record LaneStands (world : World) (base : Point) (queued waits : List Envelo
 module _ (world : World) (v : NodesView) where
   -- The lane account (EventLoop, account_law): of each lane, what is queued, waits and is listed follow what was
   -- taken. Executor x runs, and has this on its work list. The backlogs are those of the executors, by number.
-  pub record NetRuns (x : ℕ) (executors : List StationView) (backlogs : ℕ → List (Entry Unit)) (work : OutputsView) : Type 0 where
+  pub record NetRuns (x : ℕ) (stations : List StationView) (backlogs : ℕ → List (Entry Unit)) (work : OutputsView) : Type 0 where
     pub lanes : (l : Lane) → v.lanes.written l ≡ true
-        → (over : Bool) × LaneStands world (point (v.lanes.taken l) over) (on l (queue_at executors (v.lanes.target l))) (on l (envelopes (backlogs (v.origin l))))
-        (has_stopped (stops_at executors (v.origin l) (v.lanes.target l)) l) (has_stopped work.stopped l) (on l work.items) (v.lanes.came l)
+        → (over : Bool) × LaneStands world (point (v.lanes.taken l) over) (on l (queue_at stations (v.lanes.target l))) (on l (envelopes (backlogs (v.origin l))))
+        (has_stopped (stops_at stations (v.origin l) (v.lanes.target l)) l) (has_stopped work.stopped l) (on l work.items) (v.lanes.came l)
     -- an item for the executor on which it was made is never queued, nor does it wait
     pub direct : (l : Lane) → v.lanes.written l ≡ true → v.origin l ≡ v.lanes.target l
-        → (on l (queue_at executors (v.lanes.target l)) ≡ []) × (on l (envelopes (backlogs (v.origin l))) ≡ []) × (has_stopped (stops_at executors (v.origin l) (v.lanes.target l)) l ≡ false)
+        → (on l (queue_at stations (v.lanes.target l)) ≡ []) × (on l (envelopes (backlogs (v.origin l))) ≡ []) × (has_stopped (stops_at stations (v.origin l) (v.lanes.target l)) l ≡ false)
     -- nothing else is anywhere
     pub listed : (l : Lane) → written_by v x l ≡ false → on l work.items ≡ []
-    pub queued : (y : ℕ) (l : Lane) → (v.lanes.written l && (v.lanes.target l == y)) ≡ false → on l (queue_at executors y) ≡ []
+    pub queued : (y : ℕ) (l : Lane) → (v.lanes.written l && (v.lanes.target l == y)) ≡ false → on l (queue_at stations y) ≡ []
     pub waits : (y : ℕ) (l : Lane) → written_by v y l ≡ false → on l (envelopes (backlogs y)) ≡ []
     pub entries : (y : ℕ) → All (λ e. e.target ≡ v.lanes.target e.envelope.lane) (backlogs y)
-    pub holds : (y : ℕ) (e : StationView) → slice_get executors y ≡ Some e → Holds e.waiting (backlogs y)
-    pub targets : (y : ℕ) (e : StationView) → slice_get executors y ≡ Some e → length e.waiting.targets ≡ length executors
-    pub there : (l : Lane) → v.lanes.written l ≡ true → (v.origin l < length executors) × (v.lanes.target l < length executors)
+    pub holds : (y : ℕ) (e : StationView) → slice_get stations y ≡ Some e → Holds e.waiting (backlogs y)
+    pub targets : (y : ℕ) (e : StationView) → slice_get stations y ≡ Some e → length e.waiting.targets ≡ length stations
+    pub there : (l : Lane) → v.lanes.written l ≡ true → (v.origin l < length stations) × (v.lanes.target l < length stations)
     -- each lane has its place on the way to its executor
     pub hops : ℕ → ℕ → List Lane
-    pub placed : (y z : ℕ) → y < length executors → z < length executors → HasPlaces (stops_at executors y z) (hops y z)
+    pub placed : (y z : ℕ) → y < length stations → z < length stations → HasPlaces (stops_at stations y z) (hops y z)
     pub among : (l : Lane) → v.lanes.written l ≡ true → AreAmong (l ∷ []) (hops (v.origin l) (v.lanes.target l))
 
 -- At most one addition to a backlog for each item that was made, but for those on the list.
-pub record AreFew (v : NodesView) (executors : List StationView) (work : OutputsView) : Type 0 where
-  pub added : (y : ℕ) (e : StationView) → slice_get executors y ≡ Some e → e.waiting.added + length work.items ≤ v.work_done
+pub record AreFew (v : NodesView) (stations : List StationView) (work : OutputsView) : Type 0 where
+  pub added : (y : ℕ) (e : StationView) → slice_get stations y ≡ Some e → e.waiting.added + length work.items ≤ v.work_done
   pub few : v.work_done < 2 ^ 62
 
 -- an item was added to a backlog, or what stands in for it
@@ -82,14 +82,14 @@ pub record IsTakenOut (e : StationView) (target : ℕ) (result : Option Envelope
 
 -- how much was done by all nodes, and by adding to the backlog of executor x
 abbrev pub done_by : NodesView → ℕ → List StationView → ℕ
-done_by v x executors = v.work_done + option_map_or (λ e. e.waiting.added) (slice_get executors x) 0
+done_by v x stations = v.work_done + option_map_or (λ e. e.waiting.added) (slice_get stations x) 0
 
 -- ---- stations
 
 -- The nodes, what waits at each executor, the backlogs that are kept there, and the work list of the one that runs.
 pub record StationsView (N : Type 0) : Type 0 where
   pub nodes : N
-  pub executors : List StationView
+  pub stations : List StationView
   pub backlogs : ℕ → List (Entry Unit)
   pub work : OutputsView
 
@@ -97,8 +97,8 @@ module _ {N : Type 0} (view_of : N → NodesView) where
   -- Stations stand in a world while executor x runs. Their nodes hold, and their work list has places for all lanes.
   pub record StationsStand (stands : World → N → Type 0) (world : World) (x : ℕ) (c : StationsView N) : Type 0 where
     pub hold : stands world c.nodes
-    pub runs : NetRuns world (view_of c.nodes) x c.executors c.backlogs c.work
-    pub counts : AreFew (view_of c.nodes) c.executors c.work
+    pub runs : NetRuns world (view_of c.nodes) x c.stations c.backlogs c.work
+    pub counts : AreFew (view_of c.nodes) c.stations c.work
     pub places : HasPlaces c.work.stopped (view_of c.nodes).lanes.places
 
   module _ (takes : N → Envelope → OutputsView → N → OutputsView → Type 0) (x : ℕ) where
@@ -106,7 +106,7 @@ module _ {N : Type 0} (view_of : N → NodesView) where
     pub record IsCall (c : StationsView N) (e : Envelope) (mid : OutputsView) (c' : StationsView N) : Type 0 where
       pub here : (view_of c.nodes).lanes.target e.lane ≡ x
       pub taken : takes c.nodes e mid c'.nodes c'.work
-      pub executors : c'.executors ≡ c.executors
+      pub stations : c'.stations ≡ c.stations
       pub backlogs : c'.backlogs ≡ c.backlogs
 
     -- It is for another executor, and is kept for that, or what stands in for it.
@@ -117,9 +117,9 @@ module _ {N : Type 0} (view_of : N → NodesView) where
       pub before : StationView
       pub after : StationView
       pub added : IsAdded before ((view_of c.nodes).lanes.target e.lane) e after
-      pub was : slice_get c.executors x ≡ Some before
-      pub is : slice_get c'.executors x ≡ Some after
-      pub others : (y : ℕ) → y ≢ x → (slice_get c'.executors y ≡ slice_get c.executors y) × (c'.backlogs y ≡ c.backlogs y)
+      pub was : slice_get c.stations x ≡ Some before
+      pub is : slice_get c'.stations x ≡ Some after
+      pub others : (y : ℕ) → y ≢ x → (slice_get c'.stations y ≡ slice_get c.stations y) × (c'.backlogs y ≡ c.backlogs y)
       pub backlog : c'.backlogs x ≡ c.backlogs x ++ map (λ z. record { target = (view_of c.nodes).lanes.target e.lane; envelope = z; token = tt }) (added_items added.adds.answer e)
 
     -- Executor x takes the front of its list.
@@ -148,12 +148,12 @@ module _ {N : Type 0} (view_of : N → NodesView) where
       pub envelope : Envelope
       pub before : StationView
       pub after : StationView
-      pub was : slice_get c.executors x ≡ Some before
+      pub was : slice_get c.stations x ≡ Some before
       pub front : before.queue ≡ envelope ∷ after.queue
       pub waiting : after.waiting ≡ before.waiting
       pub mid : StationsView N
-      pub is : slice_get mid.executors x ≡ Some after
-      pub others : (y : ℕ) → y ≢ x → slice_get mid.executors y ≡ slice_get c.executors y
+      pub is : slice_get mid.stations x ≡ Some after
+      pub others : (y : ℕ) → y ≢ x → slice_get mid.stations y ≡ slice_get c.stations y
       pub backlogs : mid.backlogs ≡ c.backlogs
       pub taken : takes c.nodes envelope c.work mid.nodes mid.work
       pub settles : WorksListOff mid c'
@@ -176,14 +176,14 @@ pub record AbortsHead {N : Type 0} (view_of : N → NodesView) (takes : N → En
 
 -- Nothing has moved yet. Nothing is on its way, nothing was taken or made of any lane, and each lane has its place on
 -- the way to its executor.
-pub record IsStart (v : NodesView) (executors : List StationView) : Type 0 where
-  pub queues : (y : ℕ) (e : StationView) → slice_get executors y ≡ Some e → (e.queue ≡ []) × Holds e.waiting [] × (e.waiting.added ≡ 0) × (length e.waiting.targets ≡ length executors)
-  pub unstopped : (y z : ℕ) (l : Lane) → has_stopped (stops_at executors y z) l ≡ false
+pub record IsStart (v : NodesView) (stations : List StationView) : Type 0 where
+  pub queues : (y : ℕ) (e : StationView) → slice_get stations y ≡ Some e → (e.queue ≡ []) × Holds e.waiting [] × (e.waiting.added ≡ 0) × (length e.waiting.targets ≡ length stations)
+  pub unstopped : (y z : ℕ) (l : Lane) → has_stopped (stops_at stations y z) l ≡ false
   pub taken : (l : Lane) → v.lanes.written l ≡ true → v.lanes.taken l ≡ 0
   pub came : (l : Lane) → v.lanes.written l ≡ true → v.lanes.came l ≡ point 0 false
-  pub there : (l : Lane) → v.lanes.written l ≡ true → (v.origin l < length executors) × (v.lanes.target l < length executors)
+  pub there : (l : Lane) → v.lanes.written l ≡ true → (v.origin l < length stations) × (v.lanes.target l < length stations)
   pub hops : ℕ → ℕ → List Lane
-  pub placed : (y z : ℕ) → y < length executors → z < length executors → HasPlaces (stops_at executors y z) (hops y z)
+  pub placed : (y z : ℕ) → y < length stations → z < length stations → HasPlaces (stops_at stations y z) (hops y z)
   pub among : (l : Lane) → v.lanes.written l ≡ true → AreAmong (l ∷ []) (hops (v.origin l) (v.lanes.target l))
   pub few : v.work_done < 2 ^ 62
 
@@ -195,20 +195,20 @@ no_backlogs y = []
 
 -- The queue of an executor has room. One holds so many items.
 abbrev pub has_room : List StationView → ℕ → ℕ → Bool
-has_room executors capacity y = option_map_or (λ e. nat_lt (length e.queue) capacity) (slice_get executors y) false
+has_room stations capacity y = option_map_or (λ e. nat_lt (length e.queue) capacity) (slice_get stations y) false
 
 -- the queue of an executor has memory for so many items more
 abbrev pub memory_at : List StationView → ℕ → ℕ
-memory_at executors y = option_map_or (λ e. e.room) (slice_get executors y) 0
+memory_at stations y = option_map_or (λ e. e.room) (slice_get stations y) 0
 
 -- A hand-over finds no memory. It is that of the oldest entry of the backlog of executor x whose target has room,
 -- where a queue holds so many items: the queue of that target has no memory for it.
 pub record LacksMemory {N : Type 0} (capacity x : ℕ) (c : StationsView N) : Type 0 where
   pub i : ℕ
   pub entry : Entry Unit
-  pub oldest : position (λ e. has_room c.executors capacity e.target) (c.backlogs x) ≡ Some i
+  pub oldest : position (λ e. has_room c.stations capacity e.target) (c.backlogs x) ≡ Some i
   pub is : slice_get (c.backlogs x) i ≡ Some entry
-  pub memory : memory_at c.executors entry.target ≡ 0
+  pub memory : memory_at c.stations entry.target ≡ 0
 
 -- One item was handed over (EventLoop). The entry at i of the backlog of executor x has gone to the end of its
 -- target's queue. Nothing else has moved.
@@ -217,8 +217,8 @@ pub record HandsOver {N : Type 0} (x i : ℕ) (c c' : StationsView N) : Type 0 w
   pub is : slice_get (c.backlogs x) i ≡ Some entry
   pub nodes : c'.nodes ≡ c.nodes
   pub work : c'.work ≡ c.work
-  pub queue : queue_at c'.executors entry.target ≡ queue_at c.executors entry.target ++ entry.envelope ∷ []
-  pub queues : (y : ℕ) → y ≢ entry.target → queue_at c'.executors y ≡ queue_at c.executors y
+  pub queue : queue_at c'.stations entry.target ≡ queue_at c.stations entry.target ++ entry.envelope ∷ []
+  pub queues : (y : ℕ) → y ≢ entry.target → queue_at c'.stations y ≡ queue_at c.stations y
   pub backlog : c'.backlogs x ≡ remove (c.backlogs x) i
   pub backlogs : (y : ℕ) → y ≢ x → c'.backlogs y ≡ c.backlogs y
-  pub stops : (y z : ℕ) → stops_at c'.executors y z ≡ stops_at c.executors y z
+  pub stops : (y z : ℕ) → stops_at c'.stations y z ≡ stops_at c.stations y z

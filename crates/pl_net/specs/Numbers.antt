@@ -8,8 +8,8 @@ use Rattle.pl_net.specs.Nets.{StationView, queue_at, envelopes}
 
 -- how many items of a lane were handed over (EventExecutor)
 abbrev pub handed_of : NodesView → List StationView → Lane → ℕ
-handed_of v executors l = v.lanes.taken l + length (on l (queue_at executors (v.lanes.target l)))
+handed_of v stations l = v.lanes.taken l + length (on l (queue_at stations (v.lanes.target l)))
 
 -- how many items of a lane were made (EventExecutor)
 abbrev pub made_of : NodesView → List StationView → (ℕ → List (Entry Unit)) → Lane → ℕ
-made_of v executors backlogs l = handed_of v executors l + length (on l (envelopes (backlogs (v.origin l))))
+made_of v stations backlogs l = handed_of v stations l + length (on l (envelopes (backlogs (v.origin l))))

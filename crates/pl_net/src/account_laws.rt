@@ -16,21 +16,21 @@ ghost use Rattle.pl_net.specs.Numbers.{handed_of, made_of};
 /// refused growth. Nothing of a lane is queued at another executor than the one it enters, nor waits at another than the one
 /// that writes it, and nothing of any other lane is anywhere.
 pub fn account_law()
-    ensures order { (world : World) (v : NodesView) (x : ℕ) (executors : List StationView) (backlogs : ℕ → List (Entry Unit)) (work : OutputsView) → NetRuns world v x executors backlogs work
+    ensures order { (world : World) (v : NodesView) (x : ℕ) (stations : List StationView) (backlogs : ℕ → List (Entry Unit)) (work : OutputsView) → NetRuns world v x stations backlogs work
         → (l : Lane) → v.lanes.written l ≡ true
-        → (over : Bool) × IsFlow world (point (v.lanes.taken l) over) (on l (queue_at executors (v.lanes.target l)) ++ on l (envelopes (backlogs (v.origin l)))) }
-    ensures all { (world : World) (v : NodesView) (x : ℕ) (executors : List StationView) (backlogs : ℕ → List (Entry Unit)) (work : OutputsView) → NetRuns world v x executors backlogs work → work.items ≡ []
-        → (l : Lane) → v.lanes.written l ≡ true → has_stopped (stops_at executors (v.origin l) (v.lanes.target l)) l ≡ false → has_stopped work.stopped l ≡ false
-        → (over : Bool) × (past (point (v.lanes.taken l) over) (on l (queue_at executors (v.lanes.target l)) ++ on l (envelopes (backlogs (v.origin l)))) ≡ v.lanes.came l) }
-    ensures elsewhere { (world : World) (v : NodesView) (x : ℕ) (executors : List StationView) (backlogs : ℕ → List (Entry Unit)) (work : OutputsView) → NetRuns world v x executors backlogs work
-        → (y : ℕ) (l : Lane) → ((v.lanes.written l && (v.lanes.target l == y)) ≡ false → on l (queue_at executors y) ≡ []) × ((v.lanes.written l && (v.origin l == y)) ≡ false → on l (envelopes (backlogs y)) ≡ []) }
+        → (over : Bool) × IsFlow world (point (v.lanes.taken l) over) (on l (queue_at stations (v.lanes.target l)) ++ on l (envelopes (backlogs (v.origin l)))) }
+    ensures all { (world : World) (v : NodesView) (x : ℕ) (stations : List StationView) (backlogs : ℕ → List (Entry Unit)) (work : OutputsView) → NetRuns world v x stations backlogs work → work.items ≡ []
+        → (l : Lane) → v.lanes.written l ≡ true → has_stopped (stops_at stations (v.origin l) (v.lanes.target l)) l ≡ false → has_stopped work.stopped l ≡ false
+        → (over : Bool) × (past (point (v.lanes.taken l) over) (on l (queue_at stations (v.lanes.target l)) ++ on l (envelopes (backlogs (v.origin l)))) ≡ v.lanes.came l) }
+    ensures elsewhere { (world : World) (v : NodesView) (x : ℕ) (stations : List StationView) (backlogs : ℕ → List (Entry Unit)) (work : OutputsView) → NetRuns world v x stations backlogs work
+        → (y : ℕ) (l : Lane) → ((v.lanes.written l && (v.lanes.target l == y)) ≡ false → on l (queue_at stations y) ≡ []) × ((v.lanes.written l && (v.origin l == y)) ≡ false → on l (envelopes (backlogs y)) ≡ []) }
     // How many were taken, handed over and made: as many as the lane has come to, unless it was cut off; and of a lane inside
     // one executor all that was made was taken.
-    ensures numbers { (world : World) (v : NodesView) (x : ℕ) (executors : List StationView) (backlogs : ℕ → List (Entry Unit)) (work : OutputsView) → NetRuns world v x executors backlogs work → work.items ≡ []
-        → (l : Lane) → v.lanes.written l ≡ true → has_stopped (stops_at executors (v.origin l) (v.lanes.target l)) l ≡ false → has_stopped work.stopped l ≡ false
-        → made_of v executors backlogs l ≡ (v.lanes.came l).next }
-    ensures order_of_numbers { (v : NodesView) (executors : List StationView) (backlogs : ℕ → List (Entry Unit)) (l : Lane)
-        → (v.lanes.taken l ≤ handed_of v executors l) × (handed_of v executors l ≤ made_of v executors backlogs l) }
-    ensures direct { (world : World) (v : NodesView) (x : ℕ) (executors : List StationView) (backlogs : ℕ → List (Entry Unit)) (work : OutputsView) → NetRuns world v x executors backlogs work → work.items ≡ []
-        → (l : Lane) → v.lanes.written l ≡ true → v.origin l ≡ v.lanes.target l → (handed_of v executors l ≡ v.lanes.taken l) × (made_of v executors backlogs l ≡ v.lanes.taken l) }
+    ensures numbers { (world : World) (v : NodesView) (x : ℕ) (stations : List StationView) (backlogs : ℕ → List (Entry Unit)) (work : OutputsView) → NetRuns world v x stations backlogs work → work.items ≡ []
+        → (l : Lane) → v.lanes.written l ≡ true → has_stopped (stops_at stations (v.origin l) (v.lanes.target l)) l ≡ false → has_stopped work.stopped l ≡ false
+        → made_of v stations backlogs l ≡ (v.lanes.came l).next }
+    ensures order_of_numbers { (v : NodesView) (stations : List StationView) (backlogs : ℕ → List (Entry Unit)) (l : Lane)
+        → (v.lanes.taken l ≤ handed_of v stations l) × (handed_of v stations l ≤ made_of v stations backlogs l) }
+    ensures direct { (world : World) (v : NodesView) (x : ℕ) (stations : List StationView) (backlogs : ℕ → List (Entry Unit)) (work : OutputsView) → NetRuns world v x stations backlogs work → work.items ≡ []
+        → (l : Lane) → v.lanes.written l ≡ true → v.origin l ≡ v.lanes.target l → (handed_of v stations l ≡ v.lanes.taken l) × (made_of v stations backlogs l ≡ v.lanes.taken l) }
 {}

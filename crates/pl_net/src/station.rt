@@ -1,9 +1,9 @@
 //! An executor's queue, and its backlog of what was made there for others (Netty's `SingleThreadEventExecutor`).
 
-ghost use Rattle.std.specs.Prelude.{◌≡◌, ◌+◌, ◌<◌, ◌^◌, ◌∷◌, ◌++◌, [], List, IfOk, OnOk, OnErr, IfNone, Some, map, find, length, slice_get, nat_lt};
-ghost use Rattle.std.specs.Option.{option_to_list, option_map};
+ghost use Rattle.std.specs.Prelude.{◌≡◌, ◌==◌, ◌+◌, ◌<◌, ◌^◌, ◌∷◌, ◌++◌, [], List, IfOk, OnOk, OnErr, IfNone, Some, map, filter, find, count_by, length, slice_get, nat_lt};
+ghost use Rattle.std.specs.Option.{option_copied, option_to_list, option_map};
 ghost use Rattle.pl_context.specs.Stops.{HasPlaces, no_stops};
-ghost use Rattle.pl_context.specs.WaitingViews.{Entry, Holds, stops_for};
+ghost use Rattle.pl_context.specs.WaitingViews.{Entry, Holds, is_for, stops_for};
 ghost use Rattle.pl_net.specs.Nets.{StationView, IsAdded, IsTakenOut, has_room};
 
 use pl_context::Waiting;
@@ -43,6 +43,34 @@ impl Station {
             queue: VecDeque::new(alloc),
             waiting: Waiting::new(alloc, places)?,
         })
+    }
+
+    /// What was handed over to it and not taken, the oldest first.
+    pub fn queue(&self) -> &VecDeque<Envelope>
+        ensures { result.now.items ≡ self.now.queue }
+    {
+        &self.queue
+    }
+
+    /// The item at a position among those of its backlog for an executor, counted from the oldest: None past the last.
+    pub fn backlog_at(&self, target: usize, place: usize) -> Option<&Envelope>
+        ensures { (entries : List (Entry Unit)) → Holds self.now.waiting entries → option_copied result ≡ slice_get (map (λ entry. entry.envelope) (filter (is_for target) entries)) place }
+    {
+        self.waiting.get(target, place)
+    }
+
+    /// How many items of its backlog are for an executor.
+    pub fn backlog_len(&self, target: usize) -> usize
+        ensures { (entries : List (Entry Unit)) → Holds self.now.waiting entries → result ≡ count_by (is_for target) entries }
+    {
+        self.waiting.count(target)
+    }
+
+    /// Whether its backlog is empty.
+    pub fn backlog_is_empty(&self) -> bool
+        ensures { (entries : List (Entry Unit)) → Holds self.now.waiting entries → result ≡ (length entries == 0) }
+    {
+        self.waiting.is_empty()
     }
 
     /// Takes the front of the queue.
@@ -101,17 +129,17 @@ impl Station {
 }
 
 /// The target of the oldest item of an executor's backlog whose queue has room, where a queue holds `capacity` items.
-pub(crate) fn oldest_target(executors: &[Station], origin: usize, capacity: usize) -> Option<usize>
-    requires there { origin < length executors.now }
-    requires targets { (e : StationView) → slice_get executors.now origin ≡ Some e → length e.waiting.targets ≡ length executors.now }
-    ensures { (e : StationView) (entries : List (Entry Unit)) → slice_get executors.now origin ≡ Some e → Holds e.waiting entries
-        → result ≡ option_map (λ entry. entry.target) (find (λ entry. has_room executors.now capacity entry.target) entries) }
+pub(crate) fn oldest_target(stations: &[Station], origin: usize, capacity: usize) -> Option<usize>
+    requires there { origin < length stations.now }
+    requires targets { (e : StationView) → slice_get stations.now origin ≡ Some e → length e.waiting.targets ≡ length stations.now }
+    ensures { (e : StationView) (entries : List (Entry Unit)) → slice_get stations.now origin ≡ Some e → Holds e.waiting entries
+        → result ≡ option_map (λ entry. entry.target) (find (λ entry. has_room stations.now capacity entry.target) entries) }
 {
-    let executor = &executors[origin];
-    executor.waiting.oldest(
+    let station = &stations[origin];
+    station.waiting.oldest(
         |target|
-            requires { target < length executors.now }
-            ensures { result ≡ has_room executors.entry.now capacity target }
-        { executors[target].has_room(capacity) },
+            requires { target < length stations.now }
+            ensures { result ≡ has_room stations.entry.now capacity target }
+        { stations[target].has_room(capacity) },
     )
 }

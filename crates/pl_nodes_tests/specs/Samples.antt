@@ -17,13 +17,8 @@ use Rattle.pl_context.specs.Stops.{HasPlaces}
 use Rattle.pl_context.specs.WaitingViews.{WaitingView, Entry, Holds, stops_for}
 
 abbrev pub is_complete : Event → Bool
-is_complete Active = false
-is_complete (Read m) = false
 is_complete ReadComplete = true
-is_complete (Caught c) = false
-is_complete (User number) = false
-is_complete (Write m) = false
-is_complete Flush = false
+is_complete _ = false
 
 abbrev pub has_quit : List Event → Bool
 has_quit xs = list_any is_complete xs

@@ -2,6 +2,7 @@
 
 mod context_tests;
 mod failure_tests;
+mod forget_tests;
 mod head_tests;
 mod input_tests;
 mod load_tests;

@@ -3,7 +3,7 @@
 ghost use Rattle.std.specs.Prelude.{◌≡◌, ◌-◌, ◌<◌, None, vec_len, vec_capacity};
 ghost use Rattle.pl_head.specs.Transports.{new_state};
 
-use pl_head::{Transport, TransportFault};
+use pl_head::{Draining, Transport, TransportFault};
 use std::alloc::Global;
 
 /// A transport of a user's own, which accepts no byte at each odd call and one byte at each even call.
@@ -48,5 +48,11 @@ impl Transport for Trickle {
 
     fn bytes(&self) -> &[u8] {
         self.bytes.as_slice()
+    }
+}
+
+impl Draining for Trickle {
+    fn drain(&mut self) {
+        self.bytes.clear();
     }
 }

@@ -142,10 +142,10 @@ back-none added.Discarded x token t e = refl
 
 -- ---- the calls
 
-module _ (world : World) (os : List OutboxView) (w : WaitingView AdmittedView) (ts : List ℕ) (is : IsOutboxes world (record { outboxes = os; waiting = w; tried = ts })) (target : ℕ) (x : Envelope) where
+module _ (world : World) (os : List OutboxView) (w : WaitingView AdmittedView) (ts ws : List ℕ) (is : IsOutboxes world (record { outboxes = os; waiting = w; tried = ts; ways = ws })) (target : ℕ) (x : Envelope) where
   -- the target refuses: nothing waits but what did
   module _ (os' : List OutboxView) (b b' : OutboxView) (r : Replaces os os' target b b') (sends : b'.sends ≡ b.sends) (refusal : Refused) (seat : Refuses refusal b.seat b'.seat) where
-    pub refused-hold : IsOutboxes world (record { outboxes = os'; waiting = w; tried = ts })
+    pub refused-hold : IsOutboxes world (record { outboxes = os'; waiting = w; tried = ts; ways = ws })
     refused-hold =
         let l = leaves refusal b.seat b'.seat seat in
         let own = is.each target b r.was in
@@ -153,15 +153,16 @@ module _ (world : World) (os : List OutboxView) (w : WaitingView AdmittedView) (
         (outbox-same world b b' (filter (is_for target) is.entries) own sends l.kept (let m = l.made in let n = own.made in omega (arith, m, n)) l.seat)
         (λ y other. refl) (let m = l.made in omega (arith, m))
 
-    cut-off : (y : ℕ) (l : Lane) → is_cut (record { outboxes = os'; waiting = w; tried = ts }) y l ≡ false → y ≢ target
+    cut-off : (y : ℕ) (l : Lane) → is_cut (record { outboxes = os'; waiting = w; tried = ts; ways = ws }) y l ≡ false → y ≢ target
     cut-off y l goes e =
-        both_ways (refuses (record { outboxes = os'; waiting = w; tried = ts }) target) (ap (λ k. refuses (record { outboxes = os'; waiting = w; tried = ts }) k) (sym e) ∙ (or_parts (has_stopped (stops_for w y) l) (refuses (record { outboxes = os'; waiting = w; tried = ts }) y) goes).1)
+        both_ways (refuses (record { outboxes = os'; waiting = w; tried = ts; ways = ws }) target) (ap (λ k. refuses (record { outboxes = os'; waiting = w; tried = ts; ways = ws }) k) (sym e) ∙ (or_parts (has_stopped (stops_for w y) l) (refuses (record { outboxes = os'; waiting = w; tried = ts; ways = ws }) y) goes).1)
         (ap (λ o. option_map_or (λ (c : OutboxView). is_refused c.seat) o true) r.is ∙ (leaves refusal b.seat b'.seat seat).cut)
 
-    pub refused-adds : Adds (record { outboxes = os; waiting = w; tried = ts }) target x (record { outboxes = os'; waiting = w; tried = ts })
+    pub refused-adds : Adds (record { outboxes = os; waiting = w; tried = ts; ways = ws }) target x (record { outboxes = os'; waiting = w; tried = ts; ways = ws })
     refused-adds = record {
       count = r.count;
       sends = on-some (λ (c : OutboxView). c.sends) os os' target b b' r sends;
+      ways = refl;
       tried = refl;
       others = λ y other. (r.others y other, refl);
       cut = λ y l goes. ap (λ o. has_stopped (stops_for w y) l || option_map_or (λ (c : OutboxView). is_refused c.seat) o true) (sym (r.others y (cut-off y l goes))) ∙ goes;
@@ -173,7 +174,7 @@ module _ (world : World) (os : List OutboxView) (w : WaitingView AdmittedView) (
       placed = λ lanes among places. places;
     }
 
-    pub refused-by : RefusedBy (record { outboxes = os; waiting = w; tried = ts }) target refusal (record { outboxes = os'; waiting = w; tried = ts })
+    pub refused-by : RefusedBy (record { outboxes = os; waiting = w; tried = ts; ways = ws }) target refusal (record { outboxes = os'; waiting = w; tried = ts; ways = ws })
     refused-by = record { waiting = refl; before = b; was = r.was; outbox = b'; is = r.is; seat = seat }
 
   -- It admits. What stays there has the admission; what comes back had it.
@@ -181,7 +182,7 @@ module _ (world : World) (os : List OutboxView) (w : WaitingView AdmittedView) (
       (made : b'.seat.made ≡ b.seat.made + 1) (room : b.seat.made < MAX_ADMISSIONS) (same : admitted_of b'.seat ≡ admitted_of b.seat)
       (w' : WaitingView AdmittedView) (token : AdmittedView) (is_own : token ≡ admitted_of b.seat) (back : Option AdmittedView) (adds : WaitingAdds w target x token back w')
       (kept : b'.seat.kept ≡ b.seat.kept + length (added_items adds.answer x))
-      (next : is_cut (record { outboxes = os; waiting = w; tried = ts }) target x.lane ≡ false → IsNext world (reached (record { outboxes = os; waiting = w; tried = ts }) target x.lane) x) where
+      (next : is_cut (record { outboxes = os; waiting = w; tried = ts; ways = ws }) target x.lane ≡ false → IsNext world (reached (record { outboxes = os; waiting = w; tried = ts; ways = ws }) target x.lane) x) where
     abbrev items : List Envelope
     items = added_items adds.answer x
 
@@ -210,16 +211,16 @@ module _ (world : World) (os : List OutboxView) (w : WaitingView AdmittedView) (
     stops-other : (y : ℕ) → y ≢ target → stops_for w' y ≡ stops_for w y
     stops-other y other = ap (λ (o : Option (BacklogView (Stamp AdmittedView))). option_map_or (λ b. b.stopped) o (no_stops 0)) (adds.others y other)
 
-    sent-own : (l : Lane) → sent_to (record { outboxes = os; waiting = w; tried = ts }) target l ≡ sent_at b.sends.send_counts l
+    sent-own : (l : Lane) → sent_to (record { outboxes = os; waiting = w; tried = ts; ways = ws }) target l ≡ sent_at b.sends.send_counts l
     sent-own l = ap (λ o. option_map_or (λ (c : OutboxView). sent_at c.sends.send_counts l) o (record { next = 0; over = true })) r.was
 
-    refuses-own : refuses (record { outboxes = os; waiting = w; tried = ts }) target ≡ false
+    refuses-own : refuses (record { outboxes = os; waiting = w; tried = ts; ways = ws }) target ≡ false
     refuses-own = ap (λ o. option_map_or (λ (c : OutboxView). is_refused c.seat) o true) r.was ∙ open_before
 
     next-own : has_stopped (stops_for w target) x.lane ≡ false → IsNext world (behind b.sends.send_counts (waits_in w target) x.lane) x
     next-own goes =
         subst (λ p. IsNext world (past p (on x.lane (waits_in w target))) x) (sent-own x.lane)
-        (next (or_from (has_stopped (stops_for w target) x.lane) (refuses (record { outboxes = os; waiting = w; tried = ts }) target) goes refuses-own))
+        (next (or_from (has_stopped (stops_for w target) x.lane) (refuses (record { outboxes = os; waiting = w; tried = ts; ways = ws }) target) goes refuses-own))
 
     own : IsOutbox world b (filter (is_for target) is.entries)
     own = is.each target b r.was
@@ -227,7 +228,7 @@ module _ (world : World) (os : List OutboxView) (w : WaitingView AdmittedView) (
     are : AreBehind world b.sends.send_counts (waits_in w target)
     are = subst (λ zs. AreBehind world b.sends.send_counts zs) (sym waits-own) own.behind
 
-    pub added-hold : IsOutboxes world (record { outboxes = os'; waiting = w'; tried = ts })
+    pub added-hold : IsOutboxes world (record { outboxes = os'; waiting = w'; tried = ts; ways = ws })
     added-hold = outboxes-hold world os os' w w' target b b' is r more (adds.holds is.entries is.holds) adds.targets
         (record {
           behind = subst (λ zs. AreBehind world b'.sends.send_counts zs) (sym envelopes-more)
@@ -247,45 +248,46 @@ module _ (world : World) (os : List OutboxView) (w : WaitingView AdmittedView) (
         (λ y other. filter-append (is_for y) is.entries (map (entry_for target token) items) ∙ ap (λ zs. filter (is_for y) is.entries ++ zs) (other-entries target y token items other) ∙ append-nil (filter (is_for y) is.entries))
         (let a = adds.added in omega (arith, a, made))
 
-    pub added-adds : Adds (record { outboxes = os; waiting = w; tried = ts }) target x (record { outboxes = os'; waiting = w'; tried = ts })
+    pub added-adds : Adds (record { outboxes = os; waiting = w; tried = ts; ways = ws }) target x (record { outboxes = os'; waiting = w'; tried = ts; ways = ws })
     added-adds = record {
       count = r.count;
       sends = on-some (λ (c : OutboxView). c.sends) os os' target b b' r sends;
+      ways = refl;
       tried = refl;
       others = λ y other. (r.others y other, adds.others y other);
       cut = λ y l goes.
-          let parts = or_parts (has_stopped (stops_for w' y) l) (refuses (record { outboxes = os'; waiting = w'; tried = ts }) y) goes in
+          let parts = or_parts (has_stopped (stops_for w' y) l) (refuses (record { outboxes = os'; waiting = w'; tried = ts; ways = ws }) y) goes in
           ⊎_elim
           (λ (e : y ≡ target).
-          or_from (has_stopped (stops_for w y) l) (refuses (record { outboxes = os; waiting = w; tried = ts }) y)
+          or_from (has_stopped (stops_for w y) l) (refuses (record { outboxes = os; waiting = w; tried = ts; ways = ws }) y)
           (subst (λ k. has_stopped (stops_for w k) l ≡ false) (sym e) (stopped-more adds.answer (stops_for w target) x.lane l (sym (ap (λ s. has_stopped s l) adds.stopped) ∙ subst (λ k. has_stopped (stops_for w' k) l ≡ false) e parts.0)))
-          (ap (λ k. refuses (record { outboxes = os; waiting = w; tried = ts }) k) e ∙ refuses-own))
+          (ap (λ k. refuses (record { outboxes = os; waiting = w; tried = ts; ways = ws }) k) e ∙ refuses-own))
           (λ (e : y ≡ target → ⊥).
-          or_from (has_stopped (stops_for w y) l) (refuses (record { outboxes = os; waiting = w; tried = ts }) y)
+          or_from (has_stopped (stops_for w y) l) (refuses (record { outboxes = os; waiting = w; tried = ts; ways = ws }) y)
           (ap (λ s. has_stopped s l) (sym (stops-other y e)) ∙ parts.0)
           (ap (λ o. option_map_or (λ (c : OutboxView). is_refused c.seat) o true) (sym (r.others y e)) ∙ parts.1))
           (cases_eq y target);
       reached = λ y l goes.
-          let parts = or_parts (has_stopped (stops_for w' y) l) (refuses (record { outboxes = os'; waiting = w'; tried = ts }) y) goes in
+          let parts = or_parts (has_stopped (stops_for w' y) l) (refuses (record { outboxes = os'; waiting = w'; tried = ts; ways = ws }) y) goes in
           ⊎_elim
           (λ (e : y ≡ target).
-          ap (λ k. reached (record { outboxes = os'; waiting = w'; tried = ts }) k l) e
+          ap (λ k. reached (record { outboxes = os'; waiting = w'; tried = ts; ways = ws }) k l) e
           ∙ ap (λ p. past p (on l (waits_in w' target))) (ap (λ o. option_map_or (λ (c : OutboxView). sent_at c.sends.send_counts l) o (record { next = 0; over = true })) r.is ∙ ap (λ s. sent_at s.send_counts l) sends)
           ∙ ap (λ zs. behind b.sends.send_counts zs l) waits-more
           ∙ added-reached world b.sends.send_counts (waits_in w target) (stops_for w target) (stops_for w' target) x next-own adds.answer adds.stopped adds.discarded l (subst (λ k. has_stopped (stops_for w' k) l ≡ false) e parts.0)
-          ∙ ap (λ p. cond (same_lane l x.lane) (after x) p) (ap (λ p. past p (on l (waits_in w target))) (sym (sent-own l)) ∙ ap (λ k. reached (record { outboxes = os; waiting = w; tried = ts }) k l) (sym e))
-          ∙ ap (λ (c : Bool). cond (c && same_lane l x.lane) (after x) (reached (record { outboxes = os; waiting = w; tried = ts }) y l)) (sym (eq-eqb y target e)))
+          ∙ ap (λ p. cond (same_lane l x.lane) (after x) p) (ap (λ p. past p (on l (waits_in w target))) (sym (sent-own l)) ∙ ap (λ k. reached (record { outboxes = os; waiting = w; tried = ts; ways = ws }) k l) (sym e))
+          ∙ ap (λ (c : Bool). cond (c && same_lane l x.lane) (after x) (reached (record { outboxes = os; waiting = w; tried = ts; ways = ws }) y l)) (sym (eq-eqb y target e)))
           (λ (e : y ≡ target → ⊥).
           ap (λ o. past (option_map_or (λ (c : OutboxView). sent_at c.sends.send_counts l) o (record { next = 0; over = true })) (on l (waits_in w' y))) (r.others y e)
-          ∙ ap (λ zs. past (sent_to (record { outboxes = os; waiting = w; tried = ts }) y l) (on l zs)) (waits-other y e)
-          ∙ ap (λ (c : Bool). cond (c && same_lane l x.lane) (after x) (reached (record { outboxes = os; waiting = w; tried = ts }) y l)) (sym (ne_eqb y target e)))
+          ∙ ap (λ zs. past (sent_to (record { outboxes = os; waiting = w; tried = ts; ways = ws }) y l) (on l zs)) (waits-other y e)
+          ∙ ap (λ (c : Bool). cond (c && same_lane l x.lane) (after x) (reached (record { outboxes = os; waiting = w; tried = ts; ways = ws }) y l)) (sym (ne_eqb y target e)))
           (cases_eq y target);
       closed = closed-on os os' w w' target b b' r (λ e. absurd (both_ways (is_closed b.seat.seen) (or_parts (is_closed b.seat.seen) (b.seat.made == MAX_ADMISSIONS) open_before).0 e));
       made = let m = r.made in omega (arith, m, made);
       placed = λ lanes among places. subst (λ s. HasPlaces s lanes) (sym adds.stopped) (places-after adds.answer (stops_for w target) lanes x.lane places among);
     }
 
-    pub added-comes : Comes (record { outboxes = os; waiting = w; tried = ts }) target x (record { outboxes = os'; waiting = w'; tried = ts })
+    pub added-comes : Comes (record { outboxes = os; waiting = w; tried = ts; ways = ws }) target x (record { outboxes = os'; waiting = w'; tried = ts; ways = ws })
     added-comes = record { answer = adds.answer; waits = waits-more; stopped = adds.stopped; discarded = adds.discarded; last = adds.last; admitted = token; youngest = λ entries holds. adds.holds entries holds }
 
 -- ---- what the call did, whichever way it went
@@ -295,25 +297,25 @@ pub record Done (world : World) (o : OutboxesView) (target : ℕ) (x : Envelope)
   pub adds : Adds o target x o'
   pub comes : Comes o target x o'
 
-module _ (world : World) (os : List OutboxView) (w : WaitingView AdmittedView) (ts : List ℕ) (is : IsOutboxes world (record { outboxes = os; waiting = w; tried = ts })) (target : ℕ) (x : Envelope) (b a : OutboxView)
+module _ (world : World) (os : List OutboxView) (w : WaitingView AdmittedView) (ts ws : List ℕ) (is : IsOutboxes world (record { outboxes = os; waiting = w; tried = ts; ways = ws })) (target : ℕ) (x : Envelope) (b a : OutboxView)
     (at : slice_get os target ≡ Some b) (same : a ≡ record b { seat = a.seat }) (admits : Admits b.seat a.seat) (w' : WaitingView AdmittedView) (token : AdmittedView) (is_own : token ≡ admitted_of b.seat)
-    (next : is_cut (record { outboxes = os; waiting = w; tried = ts }) target x.lane ≡ false → IsNext world (reached (record { outboxes = os; waiting = w; tried = ts }) target x.lane) x) where
+    (next : is_cut (record { outboxes = os; waiting = w; tried = ts; ways = ws }) target x.lane ≡ false → IsNext world (reached (record { outboxes = os; waiting = w; tried = ts; ways = ws }) target x.lane) x) where
   -- the admission stays with what waits
-  pub stays-done : (back : Option AdmittedView) → back ≡ None → WaitingAdds w target x token back w' → Done world (record { outboxes = os; waiting = w; tried = ts }) target x (record { outboxes = set os target a; waiting = w'; tried = ts })
+  pub stays-done : (back : Option AdmittedView) → back ≡ None → WaitingAdds w target x token back w' → Done world (record { outboxes = os; waiting = w; tried = ts; ways = ws }) target x (record { outboxes = set os target a; waiting = w'; tried = ts; ways = ws })
   stays-done back none adds =
       let seat = admits-seat b.seat a.seat admits in
       let r = replaces-set os target b a at in
       let sends = ap (λ (o : OutboxView). o.sends) same in
       let goes = admits-goes b.seat a.seat admits in
       let kept : a.seat.kept ≡ b.seat.kept + length (added_items adds.answer x) = let one = stays-one adds.answer x token (sym adds.back ∙ none) in let k = seat.0 in omega (arith, one, k) in record {
-        hold = added-hold world os w ts is target x (set os target a) b a r sends goes seat.1 admits.room seat.2 w' token is_own back adds kept next;
-        adds = added-adds world os w ts is target x (set os target a) b a r sends goes seat.1 admits.room seat.2 w' token is_own back adds kept next;
-        comes = added-comes world os w ts is target x (set os target a) b a r sends goes seat.1 admits.room seat.2 w' token is_own back adds kept next;
+        hold = added-hold world os w ts ws is target x (set os target a) b a r sends goes seat.1 admits.room seat.2 w' token is_own back adds kept next;
+        adds = added-adds world os w ts ws is target x (set os target a) b a r sends goes seat.1 admits.room seat.2 w' token is_own back adds kept next;
+        comes = added-comes world os w ts ws is target x (set os target a) b a r sends goes seat.1 admits.room seat.2 w' token is_own back adds kept next;
       }
 
   -- it came back, and was given up
   pub back-done : (back : Option AdmittedView) (t : AdmittedView) → back ≡ Some t → WaitingAdds w target x token back w' → (d c : OutboxView) → slice_get (set os target a) target ≡ Some d → (seen : Status)
-      → c ≡ record d { seat = less_one d.seat seen } → Done world (record { outboxes = os; waiting = w; tried = ts }) target x (record { outboxes = set (set os target a) target c; waiting = w'; tried = ts })
+      → c ≡ record d { seat = less_one d.seat seen } → Done world (record { outboxes = os; waiting = w; tried = ts; ways = ws }) target x (record { outboxes = set (set os target a) target c; waiting = w'; tried = ts; ways = ws })
   back-done back t some adds d c now seen less =
       let first = replaces-set os target b a at in
       let e : a ≡ d = same_Some a d (sym first.is ∙ now) in
@@ -330,9 +332,9 @@ module _ (world : World) (os : List OutboxView) (w : WaitingView AdmittedView) (
       let k = seat.0 in
       let m = ap (λ (o : OutboxView). o.seat.kept) e in
       let n = ap (λ (s : SendSeatView). s.kept) is_seat ∙ gave.0 in omega (arith, none, k, m, n) in record {
-        hold = added-hold world os w ts is target x (set (set os target a) target c) b c r sends goes made admits.room own w' token is_own back adds kept next;
-        adds = added-adds world os w ts is target x (set (set os target a) target c) b c r sends goes made admits.room own w' token is_own back adds kept next;
-        comes = added-comes world os w ts is target x (set (set os target a) target c) b c r sends goes made admits.room own w' token is_own back adds kept next;
+        hold = added-hold world os w ts ws is target x (set (set os target a) target c) b c r sends goes made admits.room own w' token is_own back adds kept next;
+        adds = added-adds world os w ts ws is target x (set (set os target a) target c) b c r sends goes made admits.room own w' token is_own back adds kept next;
+        comes = added-comes world os w ts ws is target x (set (set os target a) target c) b c r sends goes made admits.room own w' token is_own back adds kept next;
       }
 
 -- a target that has refused an envelope as closed was seen closed

@@ -25,6 +25,7 @@ keeps-then o p q f g = record {
 pub stays-then : (o p q : OutboxesView) → Stays o p → Stays p q → Stays o q
 stays-then o p q f g = record {
   count = g.count ∙ f.count;
+  ways = g.ways ∙ f.ways;
   reached = λ y l. g.reached y l ∙ f.reached y l;
   cut = λ y l. g.cut y l ∙ f.cut y l;
   stops = λ y. g.stops y ∙ f.stops y;

@@ -32,19 +32,19 @@ none-passes {X} p xs none = none-long (filter p xs) (let h = slice_get_none (fil
 pub set-back : {A : Type 0} (xs : List A) (i : ℕ) (x : A) → slice_get xs i ≡ Some x → set xs i x ≡ xs
 set-back xs i x at = ap (λ y. set xs i y) (sym (get_or_from_slice_get xs i x x at)) ∙ set-get_or xs i x
 
-module _ (world : World) (os : List OutboxView) (w : WaitingView AdmittedView) (ts : List ℕ) (is : IsOutboxes world (record { outboxes = os; waiting = w; tried = ts })) (target : ℕ) where
+module _ (world : World) (os : List OutboxView) (w : WaitingView AdmittedView) (ts ws : List ℕ) (is : IsOutboxes world (record { outboxes = os; waiting = w; tried = ts; ways = ws })) (target : ℕ) where
   -- ---- nothing waits
 
   module _ (w' : WaitingView AdmittedView) (takes : Takes w is.entries target None w') where
-    pub nothing-offers : Offers (record { outboxes = os; waiting = w; tried = ts }) target Nothing (record { outboxes = os; waiting = w'; tried = ts })
+    pub nothing-offers : Offers (record { outboxes = os; waiting = w; tried = ts; ways = ws }) target Nothing (record { outboxes = os; waiting = w'; tried = ts; ways = ws })
     nothing-offers = (
-      ap (λ (v : WaitingView AdmittedView). record { outboxes = os; waiting = v; tried = ts }) takes.taken.1,
+      ap (λ (v : WaitingView AdmittedView). record { outboxes = os; waiting = v; tried = ts; ways = ws }) takes.taken.1,
       waits-entries w is.entries is.holds target ∙ ap (map (λ e. e.envelope)) (none-passes (is_for target) is.entries takes.taken.0),
     )
 
-    pub nothing-stays : Stays (record { outboxes = os; waiting = w; tried = ts }) (record { outboxes = os; waiting = w'; tried = ts })
-    nothing-stays = subst (λ (v : WaitingView AdmittedView). Stays (record { outboxes = os; waiting = w; tried = ts }) (record { outboxes = os; waiting = v; tried = ts })) (sym takes.taken.1)
-        (record { count = refl; reached = λ y l. refl; cut = λ y l. refl; stops = λ y. refl; closed = λ s. record { target = s.target; outbox = s.outbox; is = s.is; closed = s.closed }; made = refl })
+    pub nothing-stays : Stays (record { outboxes = os; waiting = w; tried = ts; ways = ws }) (record { outboxes = os; waiting = w'; tried = ts; ways = ws })
+    nothing-stays = subst (λ (v : WaitingView AdmittedView). Stays (record { outboxes = os; waiting = w; tried = ts; ways = ws }) (record { outboxes = os; waiting = v; tried = ts; ways = ws })) (sym takes.taken.1)
+        (record { count = refl; ways = refl; reached = λ y l. refl; cut = λ y l. refl; stops = λ y. refl; closed = λ s. record { target = s.target; outbox = s.outbox; is = s.is; closed = s.closed }; made = refl })
 
   -- ---- the first is taken
 
@@ -102,7 +102,7 @@ module _ (world : World) (os : List OutboxView) (w : WaitingView AdmittedView) (
       waits-other y other =
           waits-entries w' (remove is.entries i) takes.taken.3 y ∙ ap (map (λ e. e.envelope)) (others-rest y other) ∙ sym (waits-entries w is.entries is.holds y)
 
-      pub handed-hold : IsOutboxes world (record { outboxes = set os target b'; waiting = w'; tried = ts })
+      pub handed-hold : IsOutboxes world (record { outboxes = set os target b'; waiting = w'; tried = ts; ways = ws })
       handed-hold =
           let outbox = is.each target b at in
           outboxes-hold world os (set os target b') w w' target b b' is r (remove is.entries i) takes.taken.3 takes.targets
@@ -120,7 +120,7 @@ module _ (world : World) (os : List OutboxView) (w : WaitingView AdmittedView) (
           others-rest (let s = ap (λ s. s.made) is_seat in omega (arith, added, s))
 
       pub handed-offers : ((entries : List (Entry AdmittedView)) → Holds w entries → Takes w entries target (Some (x, token)) w')
-          → Offers (record { outboxes = os; waiting = w; tried = ts }) target Handed (record { outboxes = set os target b'; waiting = w'; tried = ts })
+          → Offers (record { outboxes = os; waiting = w; tried = ts; ways = ws }) target Handed (record { outboxes = set os target b'; waiting = w'; tried = ts; ways = ws })
       handed-offers first = record {
         envelope = x;
         waits = waits-own ∙ ap (λ zs. x ∷ zs) (sym waits-rest);
@@ -129,19 +129,20 @@ module _ (world : World) (os : List OutboxView) (w : WaitingView AdmittedView) (
         rest = λ entries holds. let t = (first entries holds).taken in (t.0, t.1, t.3);
       }
 
-      pub handed-stays : Stays (record { outboxes = os; waiting = w; tried = ts }) (record { outboxes = set os target b'; waiting = w'; tried = ts })
+      pub handed-stays : Stays (record { outboxes = os; waiting = w; tried = ts; ways = ws }) (record { outboxes = set os target b'; waiting = w'; tried = ts; ways = ws })
       handed-stays = record {
         count = r.count;
+        ways = refl;
         reached = λ y l. ⊎_elim
             (λ (e : y ≡ target).
-            ap (λ k. reached (record { outboxes = set os target b'; waiting = w'; tried = ts }) k l) e
+            ap (λ k. reached (record { outboxes = set os target b'; waiting = w'; tried = ts; ways = ws }) k l) e
             ∙ ap (λ o. past (option_map_or (λ (c : OutboxView). sent_at c.sends.send_counts l) o (record { next = 0; over = true })) (on l (waits_in w' target))) r.is
             ∙ ap (λ s. past (sent_at s.send_counts l) (on l (waits_in w' target))) is_sends
             ∙ ap (λ zs. behind (after_offer b.sends x).send_counts zs l) waits-rest
             ∙ front-behind world b.sends.send_counts x (map (λ e. e.envelope) rest) are l
             ∙ ap (λ zs. behind b.sends.send_counts zs l) (sym waits-own)
             ∙ ap (λ o. past (option_map_or (λ (c : OutboxView). sent_at c.sends.send_counts l) o (record { next = 0; over = true })) (on l (waits_in w target))) (sym at)
-            ∙ ap (λ k. reached (record { outboxes = os; waiting = w; tried = ts }) k l) (sym e))
+            ∙ ap (λ k. reached (record { outboxes = os; waiting = w; tried = ts; ways = ws }) k l) (sym e))
             (λ (e : y ≡ target → ⊥).
             ap (λ o. past (option_map_or (λ (c : OutboxView). sent_at c.sends.send_counts l) o (record { next = 0; over = true })) (on l (waits_in w' y))) (r.others y e)
             ∙ ap (λ zs. past (option_map_or (λ (c : OutboxView). sent_at c.sends.send_counts l) (slice_get os y) (record { next = 0; over = true })) (on l zs)) (waits-other y e))
@@ -161,7 +162,7 @@ module _ (world : World) (os : List OutboxView) (w : WaitingView AdmittedView) (
     waits-same : (y : ℕ) → waits_in w' y ≡ waits_in w y
     waits-same y = waits-entries w' is.entries (back is.entries is.holds) y ∙ sym (waits-entries w is.entries is.holds y)
 
-    pub full-hold : IsOutboxes world (record { outboxes = os; waiting = w'; tried = ts' })
+    pub full-hold : IsOutboxes world (record { outboxes = os; waiting = w'; tried = ts'; ways = ws })
     full-hold = record {
       entries = is.entries;
       holds = back is.entries is.holds;
@@ -171,14 +172,15 @@ module _ (world : World) (os : List OutboxView) (w : WaitingView AdmittedView) (
       few = is.few;
     }
 
-    pub full-offers : Offers (record { outboxes = os; waiting = w; tried = ts }) target Full (record { outboxes = os; waiting = w'; tried = ts' })
+    pub full-offers : Offers (record { outboxes = os; waiting = w; tried = ts; ways = ws }) target Full (record { outboxes = os; waiting = w'; tried = ts'; ways = ws })
     full-offers = record { each = λ y. record { waits = waits-same y; sends = refl }; holds = back }
 
-    pub full-stays : Stays (record { outboxes = os; waiting = w; tried = ts }) (record { outboxes = os; waiting = w'; tried = ts' })
+    pub full-stays : Stays (record { outboxes = os; waiting = w; tried = ts; ways = ws }) (record { outboxes = os; waiting = w'; tried = ts'; ways = ws })
     full-stays = record {
       count = refl;
-      reached = λ y l. ap (λ zs. past (sent_to (record { outboxes = os; waiting = w; tried = ts }) y l) (on l zs)) (waits-same y);
-      cut = λ y l. ap (λ s. has_stopped s l || refuses (record { outboxes = os; waiting = w; tried = ts }) y) (stops y);
+      ways = refl;
+      reached = λ y l. ap (λ zs. past (sent_to (record { outboxes = os; waiting = w; tried = ts; ways = ws }) y l) (on l zs)) (waits-same y);
+      cut = λ y l. ap (λ s. has_stopped s l || refuses (record { outboxes = os; waiting = w; tried = ts; ways = ws }) y) (stops y);
       stops = stops;
       closed = λ s. record { target = s.target; outbox = s.outbox; is = s.is; closed = s.closed };
       made = refl;
@@ -186,9 +188,9 @@ module _ (world : World) (os : List OutboxView) (w : WaitingView AdmittedView) (
 
 -- ---- what was tried is forgotten
 
-pub forgets : (os : List OutboxView) (w : WaitingView AdmittedView) (ts ts' : List ℕ) → Forgets (record { outboxes = os; waiting = w; tried = ts }) (record { outboxes = os; waiting = w; tried = ts' })
-forgets os w ts ts' = record {
+pub forgets : (os : List OutboxView) (w : WaitingView AdmittedView) (ts ts' ws : List ℕ) → Forgets (record { outboxes = os; waiting = w; tried = ts; ways = ws }) (record { outboxes = os; waiting = w; tried = ts'; ways = ws })
+forgets os w ts ts' ws = record {
   waiting = refl;
   same = λ y. record { waits = refl; sends = refl };
-  stays = record { count = refl; reached = λ y l. refl; cut = λ y l. refl; stops = λ y. refl; closed = λ s. record { target = s.target; outbox = s.outbox; is = s.is; closed = s.closed }; made = refl };
+  stays = record { count = refl; ways = refl; reached = λ y l. refl; cut = λ y l. refl; stops = λ y. refl; closed = λ s. record { target = s.target; outbox = s.outbox; is = s.is; closed = s.closed }; made = refl };
 }

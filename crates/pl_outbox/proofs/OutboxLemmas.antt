@@ -69,8 +69,8 @@ on-some f os os' target b b' r same y = ⊎_elim
     (cases_eq y target)
 
 -- a target that was seen closed goes on to be so
-pub closed-on : (os os' : List OutboxView) (w w' : WaitingView AdmittedView) {ts ts' : List ℕ} (target : ℕ) (b b' : OutboxView) → Replaces os os' target b b' → (is_closed b.seat.seen ≡ true → is_closed b'.seat.seen ≡ true)
-    → SomeClosed (record { outboxes = os; waiting = w; tried = ts }) → SomeClosed (record { outboxes = os'; waiting = w'; tried = ts' })
+pub closed-on : (os os' : List OutboxView) (w w' : WaitingView AdmittedView) {ts ts' ws ws' : List ℕ} (target : ℕ) (b b' : OutboxView) → Replaces os os' target b b' → (is_closed b.seat.seen ≡ true → is_closed b'.seat.seen ≡ true)
+    → SomeClosed (record { outboxes = os; waiting = w; tried = ts; ways = ws }) → SomeClosed (record { outboxes = os'; waiting = w'; tried = ts'; ways = ws' })
 closed-on os os' w w' target b b' r on s = ⊎_elim
     (λ (e : s.target ≡ target).
     let same : s.outbox ≡ b = same_Some s.outbox b (sym s.is ∙ ap (λ k. slice_get os k) e ∙ r.was) in
@@ -92,10 +92,10 @@ waits-entries w entries h y = by (slice_get w.targets y) refl
 -- ---- what holds between two calls
 
 -- One outbox has changed, and what waits for its target.
-pub outboxes-hold : (world : World) (os os' : List OutboxView) (w w' : WaitingView AdmittedView) (target : ℕ) (b b' : OutboxView) {ts ts' : List ℕ} (is : IsOutboxes world (record { outboxes = os; waiting = w; tried = ts }))
+pub outboxes-hold : (world : World) (os os' : List OutboxView) (w w' : WaitingView AdmittedView) (target : ℕ) (b b' : OutboxView) {ts ts' ws ws' : List ℕ} (is : IsOutboxes world (record { outboxes = os; waiting = w; tried = ts; ways = ws }))
     → Replaces os os' target b b' → (entries : List (Entry AdmittedView)) → Holds w' entries → length w'.targets ≡ length w.targets
     → IsOutbox world b' (filter (is_for target) entries) → ((y : ℕ) → y ≢ target → filter (is_for y) entries ≡ filter (is_for y) is.entries)
-    → w'.added + b.seat.made ≤ w.added + b'.seat.made → IsOutboxes world (record { outboxes = os'; waiting = w'; tried = ts' })
+    → w'.added + b.seat.made ≤ w.added + b'.seat.made → IsOutboxes world (record { outboxes = os'; waiting = w'; tried = ts'; ways = ws' })
 outboxes-hold world os os' w w' target b b' is r entries holds targets here others more = record {
   entries = entries;
   holds = holds;
@@ -171,9 +171,9 @@ at-new [] y b all at = absurd (no at)
 at-new (x ∷ os) zero b all at = subst IsNew (same_Some x b at) (All-head IsNew x os all)
 at-new (x ∷ os) (suc y) b all at = at-new os y b (All-tail IsNew x os all) at
 
-pub new-hold : (world : World) (os : List OutboxView) (w : WaitingView AdmittedView) (tried : List ℕ) → All IsNew os → Holds w [] → length w.targets ≡ length os → w.added ≡ 0 → length os < 2 ^ 16
-    → IsOutboxes world (record { outboxes = os; waiting = w; tried = tried })
-new-hold world os w tried new holds targets added few = record {
+pub new-hold : (world : World) (os : List OutboxView) (w : WaitingView AdmittedView) (tried ways : List ℕ) → All IsNew os → Holds w [] → length w.targets ≡ length os → w.added ≡ 0 → length os < 2 ^ 16
+    → IsOutboxes world (record { outboxes = os; waiting = w; tried = tried; ways = ways })
+new-hold world os w tried ways new holds targets added few = record {
   entries = [];
   holds = holds;
   each = λ y b at. let n = at-new os y b new at in let kept = n.kept in let pushes = n.pushes in let made = n.made in record {

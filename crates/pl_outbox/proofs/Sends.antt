@@ -14,6 +14,7 @@ use Rattle.pl_context.proofs.waiting.Waiting.TheSendSync as waits
 use Rattle.pl_outbox.specs.contracts.executor_set.ExecutorSet as executor_set
 use Rattle.pl_outbox.specs.contracts.outboxes.Outboxes as outboxes
 use Rattle.pl_outbox.specs.contracts.outboxes.Outboxes.TheInside as outboxes_inside
+use Rattle.pl_outbox.proofs.inbox.Inbox.TheSendSync as inbox
 use Rattle.pl_outbox.proofs.outbox.Outbox.TheSendSync as outbox
 use Rattle.pl_outbox.proofs.tries.Tries.TheSendSync as tries
 
@@ -33,6 +34,7 @@ module _ (a : NamedLft) (W M S T : RattleType) (w : named.Ghosts W.Denot) (m : m
   pub outboxes_send : IsSend S → IsSync M → IsSend (outboxes.the_row a W M S T w m)
   outboxes_send s y =
       let o = outbox.the_send a W M S T w m s y in
+      let i = inbox.the_sync W M S T y in
       let O = outboxes_inside.the_type a W M S T w m in
-      let all : AllSend (fields O) = (vec.the_send _ _ _ o global.the_send global_allocator.the_frees, (waiting_send, (search sendable, (tries.the_send, (executor_set_send, (search sendable, tt)))))) in
+      let all : AllSend (fields O) = (search (sendable, i) depth 20, (vec.the_send _ _ _ (search sendable) global.the_send global_allocator.the_frees, (vec.the_send _ _ _ o global.the_send global_allocator.the_frees, (waiting_send, (search sendable, (tries.the_send, (executor_set_send, (search sendable, tt)))))))) in
       view_send _ _ _ _ _ (recorded_send _ _ O.to O.to_one (struct_send (shape O) all))

@@ -1,5 +1,5 @@
 -- What an executor made for others, and its right to it: what was sent to each, and what waits.
-use Rattle.std.specs.Prelude.{◌≡◌, ◌≢◌, ◌↔◌, ℕ, ◌+◌, ◌<◌, ◌≤◌, ◌^◌, Bool, true, false, ◌||◌, ◌&&◌, ◌==◌, cond, List, [], ◌∷◌, ◌++◌, map, filter, find, position, remove, not, length, slice_get, sum_by, All, Option, Some}
+use Rattle.std.specs.Prelude.{◌≡◌, ◌≢◌, ◌↔◌, ℕ, ◌+◌, ◌<◌, ◌≤◌, ◌^◌, Bool, true, false, ◌||◌, ◌&&◌, ◌==◌, cond, List, [], ◌∷◌, ◌++◌, map, filter, find, position, remove, not, length, slice_get, get_or, sum_by, All, Option, Some, ◌-◌}
 use Rattle.std.specs.Option.{option_map, option_map_or}
 use Rattle.pl_event.specs.declared.envelopes.Envelope.{Envelope}
 use Rattle.pl_event.specs.declared.envelopes.Lane.{Lane}
@@ -31,12 +31,17 @@ pub record OutboxView : Type 0 where
   pub sends : SenderView
   pub seat : SendSeatView
 
--- The ways to all executors, by number (EventExecutor). With them stand what waits for these, each with its
--- admission, and the targets whose queue the last `hand` found full.
+-- The ways to executors (EventExecutor). By executor stands the number of the way to it, and a target stands by that number.
+-- With them stand what waits for these, each with its admission, and the targets whose queue the last `hand` found full.
 pub record OutboxesView : Type 0 where
   pub outboxes : List OutboxView
+  pub ways : List ℕ
   pub waiting : WaitingView AdmittedView
   pub tried : List ℕ
+
+-- the way to an executor, by its number. Where there is none, no way has that
+abbrev pub way_to : OutboxesView → ℕ → ℕ
+way_to o executor = get_or o.ways executor (2 ^ 16 - 1)
 
 -- an envelope that waits for a target, with its admission
 abbrev pub entry_for : ℕ → AdmittedView → Envelope → Entry AdmittedView
@@ -127,6 +132,7 @@ pub record IsOutboxes (world : World) (o : OutboxesView) : Type 0 where
 -- more of a lane gets in, it did before, and has come behind the envelope.
 pub record Adds (o : OutboxesView) (target : ℕ) (x : Envelope) (o' : OutboxesView) : Type 0 where
   pub count : length o'.outboxes ≡ length o.outboxes
+  pub ways : o'.ways ≡ o.ways
   pub sends : (y : ℕ) → sends_for o' y ≡ sends_for o y
   pub tried : o'.tried ≡ o.tried
   pub others : (y : ℕ) → y ≢ target → (slice_get o'.outboxes y ≡ slice_get o.outboxes y) × (slice_get o'.waiting.targets y ≡ slice_get o.waiting.targets y)
@@ -209,6 +215,7 @@ pub record SendsNothing (o o' : OutboxesView) : Type 0 where
 -- Each lane has come as far as before. Nothing was stopped, admitted or refused.
 pub record Stays (o o' : OutboxesView) : Type 0 where
   pub count : length o'.outboxes ≡ length o.outboxes
+  pub ways : o'.ways ≡ o.ways
   pub reached : (y : ℕ) (l : Lane) → reached o' y l ≡ reached o y l
   pub cut : (y : ℕ) (l : Lane) → is_cut o' y l ≡ is_cut o y l
   pub stops : (y : ℕ) → stops_for o'.waiting y ≡ stops_for o.waiting y

@@ -15,7 +15,7 @@ pub struct Bell {
     unparker: Unparker,
     /// 1 where its executor is about to rest, or rests; 0 where nobody needs to wake it.
     resting: AtomicU64,
-    waiting: Notes,
+    waiters: Notes,
 }
 
 impl Bell {
@@ -23,7 +23,7 @@ impl Bell {
         Bell {
             unparker,
             resting: AtomicU64::new(0),
-            waiting: Notes::new(),
+            waiters: Notes::new(),
         }
     }
 
@@ -41,19 +41,19 @@ impl Bell {
     }
 
     /// Notes that an executor waits for room.
-    pub(crate) fn note_waiting(&self, executor: usize) {
-        self.waiting.add(executor);
+    pub(crate) fn note_waiter(&self, executor: usize) {
+        self.waiters.add(executor);
     }
 
     /// Those that wait for room in its executor's queue. Nobody does any more.
-    pub fn take_waiting(&self) -> ExecutorSet {
-        self.waiting.take()
+    pub fn take_waiters(&self) -> ExecutorSet {
+        self.waiters.take()
     }
 
     /// Those that wait for room there, where they are to be woken though more may be taken, after so many envelopes.
-    pub fn take_waiting_after(&self, taken: u64) -> ExecutorSet {
+    pub fn take_waiters_after(&self, taken: u64) -> ExecutorSet {
         if taken % WAKE_EVERY == 0 {
-            self.take_waiting()
+            self.take_waiters()
         } else {
             ExecutorSet::none()
         }

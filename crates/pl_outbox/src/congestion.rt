@@ -32,9 +32,9 @@ impl Congestion {
     }
 
     /// So many envelopes wait at its executor now. Those that are to be woken, since it no longer is congested.
-    pub fn tell(&self, waits: u64) -> ExecutorSet {
+    pub fn update(&self, waiting: u64) -> ExecutorSet {
         let was_on = self.is_on();
-        let is_on = waits > if was_on { LOW } else { HIGH };
+        let is_on = waiting > if was_on { LOW } else { HIGH };
         if is_on == was_on {
             return ExecutorSet::none();
         }

@@ -3,7 +3,7 @@
 use std::sync::atomic::{AtomicU64, Ordering};
 
 /// The most executors that are told apart.
-pub(crate) const MAX_BITS: usize = 64;
+const MAX_BITS: usize = 64;
 
 /// Executors that are to be woken. Bit b is that of each executor whose number is b modulo 64, so where there are more than
 /// 64 it may have some for nothing.
@@ -23,13 +23,34 @@ impl ExecutorSet {
         }
     }
 
-    /// How many bits are set.
-    pub(crate) fn count(self) -> u32 {
-        self.bits.count_ones()
+    /// Calls this for each of its executors, whose values are these by number. Mostly there are none.
+    #[inline(always)]
+    pub(crate) fn each_of<T, F: Fn(&T)>(self, values: &[T], call: F)
+        requires { F.IsAlwaysCallable call }
+    {
+        if self.bits != 0 {
+            self.each_set(values, call);
+        }
+    }
+
+    /// The same, one after another.
+    #[inline(never)]
+    fn each_set<T, F: Fn(&T)>(self, values: &[T], call: F)
+        requires { F.IsAlwaysCallable call }
+    {
+        let mut left = self;
+        for _ in 0..left.bits.count_ones() {
+            let bit = left.take_bit();
+            for block in values.chunks(MAX_BITS) {
+                if let Some(value) = block.get(bit) {
+                    call(value);
+                }
+            }
+        }
     }
 
     /// Takes out the least bit that is set.
-    pub(crate) fn take_bit(&mut self) -> usize {
+    fn take_bit(&mut self) -> usize {
         let bit = self.bits.trailing_zeros() as usize;
         self.bits &= self.bits.wrapping_sub(1);
         bit

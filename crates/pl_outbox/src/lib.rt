@@ -14,4 +14,4 @@ pub use congestion::Congestion;
 pub use executor_set::ExecutorSet;
 pub use inbox::Inbox;
 pub use outbox::Outbox;
-pub use outboxes::Outboxes;
+pub use outboxes::{NO_WAY, Outboxes};

@@ -7,11 +7,12 @@ ghost use Rattle.pl_queue.specs.declared.views.SenderView.{SenderView};
 ghost use Rattle.pl_words.specs.Admissions.{AdmittedView};
 ghost use Rattle.pl_flow.specs.Flows.{IsNext};
 ghost use Rattle.pl_outbox.specs.Tries.{is_tried};
-ghost use Rattle.pl_outbox.specs.OutboxViews.{IsNew, admissions, waits_for, sends_for, was_tried, oldest_untried, tried_after, reached, is_cut, Adds, Comes, RefusedBy, Offers, WasFull, FullOnce, Sends, SameFor, Stays, Forgets, closed_seat};
+ghost use Rattle.pl_outbox.specs.OutboxViews.{IsNew, admissions, waits_for, sends_for, was_tried, oldest_untried, tried_after, way_to, reached, is_cut, Adds, Comes, RefusedBy, Offers, WasFull, FullOnce, Sends, SameFor, Stays, Forgets, closed_seat};
 
 use crate::bell::WAKE_EVERY;
 use crate::congestion::Congestion;
-use crate::executor_set::{ExecutorSet, MAX_BITS};
+use crate::executor_set::ExecutorSet;
+use crate::inbox::Inbox;
 use crate::outbox::Outbox;
 use crate::tries::Tries;
 use pl_context::Waiting;
@@ -21,6 +22,9 @@ use pl_words::{Admitted, Refused, SendSeat, Status};
 use std::alloc::{AllocError, Global};
 use std::marker::Model;
 use std::sync::Wait;
+
+/// The number of no way.
+pub const NO_WAY: u16 = u16::MAX;
 
 /// What became of the oldest envelope for a target.
 #[derive(Clone, Copy, Debug, PartialEq, Eq)]
@@ -33,20 +37,25 @@ enum Offered {
     Nothing,
 }
 
-/// The ways to all executors, by number, and the envelopes that wait for them.
+/// The ways to other executors, and the envelopes that wait for them. Each way has a number, and a target stands by that of the
+/// way to it.
 ///
 /// Each envelope that waits, and each that was sent, has an admission of its target: so a target that was closed with
 /// the number of envelopes that it took has nothing coming any more. On each lane what waits follows what was sent, with
 /// the next numbers and nothing behind an end or a failure.
 #[derive(Drop)]
 pub struct Outboxes<'a, W: Named, M: Mailbox<W> + Drop> {
+    /// Those of all executors, by number.
+    inboxes: &'a [Inbox<W, M>],
+    /// By executor the number of the way to it; `NO_WAY` where there is none.
+    ways: Vec<u16>,
     outboxes: Vec<Outbox<'a, W, M>>,
     waiting: Waiting<Admitted>,
     /// How many envelopes wait.
-    waits: u64,
+    waiting_count: u64,
     /// The targets whose queue was found full by the last `hand`.
     tries: Tries,
-    /// The executors to which something was sent, and which were not woken for it yet.
+    /// The targets to which something was sent, and which were not woken for it yet.
     unrung: ExecutorSet,
     /// How many envelopes were sent to these.
     unrung_sent: u64,
@@ -58,15 +67,18 @@ impl<'a, W: Named, M: Mailbox<W> + Drop> Model for Outboxes<'a, W, M> {
 
     ghost Value = { OutboxesView };
 
-    ghost view = { λ o. record { outboxes = o.outboxes.items; waiting = o.waiting; tried = o.tries.tried } };
+    ghost view = { λ o. record { outboxes = o.outboxes.items; ways = o.ways.items; waiting = o.waiting; tried = o.tries.tried } };
 
-    ghost invariant = { λ o. IsOutboxes W.world (record { outboxes = o.outboxes.items; waiting = o.waiting; tried = o.tries.tried }) × (o.tries.count ≡ length o.outboxes.items) };
+    ghost invariant = { λ o. IsOutboxes W.world (record { outboxes = o.outboxes.items; ways = o.ways.items; waiting = o.waiting; tried = o.tries.tried }) × (o.tries.count ≡ length o.outboxes.items) };
 }
 
 impl<'a, W: Named, M: Mailbox<W> + Drop> Outboxes<'a, W, M> {
-    /// Nothing waits. There is an outbox for each executor, of which nothing was sent, with so many reserved places.
+    /// Nothing waits. There is an outbox for each way, of which nothing was sent, with so many reserved places; and by executor
+    /// the number of the way to it, or 2^16 - 1 where there is none. `inboxes` are those of all executors, by number.
     pub fn new(
         alloc: Global,
+        inboxes: &'a [Inbox<W, M>],
+        ways: Vec<u16>,
         outboxes: Vec<Outbox<'a, W, M>>,
         places: &[u16],
     ) -> Result<Self, AllocError>
@@ -74,26 +86,51 @@ impl<'a, W: Named, M: Mailbox<W> + Drop> Outboxes<'a, W, M> {
         requires places { length places.now ≡ length outboxes.items }
         requires few { length outboxes.items < 2 ^ 16 }
         ensures outboxes { IfOk result (λ new. new.outboxes ≡ outboxes.entry.items) }
+        ensures ways { IfOk result (λ new. new.ways ≡ ways.items) }
         ensures waits { IfOk result (λ new. (y : ℕ) → waits_for new y ≡ []) }
         ensures tried { IfOk result (λ new. new.tried ≡ []) }
         ensures admitted { IfOk result (λ new. admissions new ≡ 0) }
         ensures places { IfOk result (λ new. map (λ b. b.stopped) new.waiting.targets ≡ map no_stops places.now) }
     {
         Ok(Outboxes {
+            inboxes,
+            ways,
             waiting: Waiting::new(alloc, places)?,
             tries: Tries::new(alloc, outboxes.len())?,
             outboxes,
-            waits: 0,
+            waiting_count: 0,
             unrung: ExecutorSet::none(),
             unrung_sent: 0,
         })
     }
 
-    /// Adds an envelope for a target at the end, with an admission. Where memory is refused, what stands in for it, or
+    /// Adds an envelope for an executor at the end, with an admission. Where memory is refused, what stands in for it, or
     /// nothing: then its admission is given up.
     ///
-    /// Error: the target is closed, or the seat is spent. Nothing was added.
-    pub fn add(&mut self, target: usize, envelope: Envelope) -> Result<(), Refused>
+    /// Error: that executor is closed, or the seat is spent. Nothing was added.
+    pub fn add(&mut self, executor: usize, envelope: Envelope) -> Result<(), Refused>
+        requires there { way_to self.old executor < length self.old.outboxes }
+        requires place { HasPlaces (stops_for self.old.waiting (way_to self.old executor)) (envelope.lane ∷ []) }
+        requires next { is_cut self.old (way_to self.old executor) envelope.lane ≡ false → IsNext W.world (reached self.old (way_to self.old executor) envelope.lane) envelope }
+        ensures adds { Adds self.old (way_to self.old executor) envelope self.new }
+        ensures comes { IfOk result (λ _. Comes self.old (way_to self.old executor) envelope self.new) }
+        ensures refused { IfErr result (λ refusal. RefusedBy self.old (way_to self.old executor) refusal self.new) }
+    {
+        self.add_for(self.way_to(executor), envelope)
+    }
+
+    /// The number of the way to an executor.
+    fn way_to(&self, executor: usize) -> usize
+        ensures { result ≡ way_to self.now executor }
+    {
+        match self.ways.get(executor) {
+            None => usize::from(NO_WAY),
+            Some(&way) => usize::from(way),
+        }
+    }
+
+    /// Adds an envelope for a target.
+    fn add_for(&mut self, target: usize, envelope: Envelope) -> Result<(), Refused>
         requires there { target < length self.old.outboxes }
         requires place { HasPlaces (stops_for self.old.waiting target) (envelope.lane ∷ []) }
         requires next { is_cut self.old target envelope.lane ≡ false → IsNext W.world (reached self.old target envelope.lane) envelope }
@@ -108,7 +145,7 @@ impl<'a, W: Named, M: Mailbox<W> + Drop> Outboxes<'a, W, M> {
             }
             Ok(admitted) => {
                 match self.waiting.add(target, envelope, admitted) {
-                    None => self.waits = self.waits.saturating_add(1),
+                    None => self.waiting_count = self.waiting_count.saturating_add(1),
                     Some(admitted) => self.outboxes[target].give_up(admitted),
                 }
                 Ok(())
@@ -116,7 +153,7 @@ impl<'a, W: Named, M: Mailbox<W> + Drop> Outboxes<'a, W, M> {
         }
     }
 
-    /// What waits, and no way to hand it over; and the first seat, by the number of its target, that has seen that target
+    /// What waits, and no way to hand it over; and the first seat, by the number of its way, that has seen its target
     /// closed.
     pub fn into_rest(self) -> (Waiting<Admitted>, Option<SendSeat>)
         ensures waiting { result.0 ≡ self.entry.waiting }
@@ -206,7 +243,7 @@ impl<'a, W: Named, M: Mailbox<W> + Drop> Outboxes<'a, W, M> {
         match self.outboxes[target].offer(rt, envelope) {
             Ok(()) => {
                 admitted.sent();
-                self.waits = self.waits.saturating_sub(1);
+                self.waiting_count = self.waiting_count.saturating_sub(1);
                 self.unrung = self.unrung.with(target);
                 self.unrung_sent = self.unrung_sent.saturating_add(1);
                 Offered::Handed
@@ -237,30 +274,27 @@ impl<'a, W: Named, M: Mailbox<W> + Drop> Outboxes<'a, W, M> {
     }
 
     /// Says at its executor's own inbox how much waits, and wakes those whose reads wait until that is less.
-    pub fn tell_congestion(&self, own: &Congestion) {
-        self.ring(own.tell(self.waits));
+    pub fn update_congestion(&self, own: &Congestion) {
+        self.ring(own.update(self.waiting_count));
     }
 
     /// Whether an executor is congested, this one or another.
     pub fn is_any_congested(&self) -> bool {
-        let outboxes = self.outboxes.as_slice();
-        outboxes
-            .iter()
-            .any(|outbox| outbox.inbox.congestion.is_on())
+        self.inboxes.iter().any(|inbox| inbox.congestion.is_on())
     }
 
     /// Notes at each executor that the reads of one wait until it is not congested.
     pub fn note_reader(&self, executor: usize) {
-        for outbox in &self.outboxes {
-            outbox.inbox.congestion.note_reader(executor);
+        for inbox in self.inboxes {
+            inbox.congestion.note_reader(executor);
         }
     }
 
     /// Notes at each queue that the last `hand` found full that an executor waits for room there.
-    pub fn note_waiting(&self, executor: usize) {
+    pub fn note_waiter(&self, executor: usize) {
         for &target in self.tries.as_slice() {
             if let Some(outbox) = self.outboxes.get(target) {
-                outbox.inbox.bell.note_waiting(executor);
+                outbox.inbox.bell.note_waiter(executor);
             }
         }
     }
@@ -281,29 +315,13 @@ impl<'a, W: Named, M: Mailbox<W> + Drop> Outboxes<'a, W, M> {
         let unrung = self.unrung;
         self.unrung = ExecutorSet::none();
         self.unrung_sent = 0;
-        self.ring(unrung);
+        unrung.each_of(self.outboxes.as_slice(), |outbox| outbox.inbox.bell.ring());
     }
 
     /// Wakes these executors. Mostly there are none.
     #[inline(always)]
     pub fn ring(&self, executors: ExecutorSet) {
-        if executors.count() > 0 {
-            self.ring_each(executors);
-        }
-    }
-
-    /// Wakes these executors, one after another.
-    #[inline(never)]
-    fn ring_each(&self, executors: ExecutorSet) {
-        let mut left = executors;
-        for _ in 0..left.count() {
-            let bit = left.take_bit();
-            for block in self.outboxes.chunks(MAX_BITS) {
-                if let Some(outbox) = block.get(bit) {
-                    outbox.inbox.bell.ring();
-                }
-            }
-        }
+        executors.each_of(self.inboxes, |inbox| inbox.bell.ring());
     }
 }
 

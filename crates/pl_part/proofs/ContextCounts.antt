@@ -14,7 +14,7 @@ use Rattle.pl_context.specs.declared.added.Added.{Added}
 use Rattle.pl_context.specs.declared.added.Added.TheVariants.{Last, Refused, Discarded}
 use Rattle.pl_context.specs.declared.ports.Port.{Port}
 use Rattle.pl_context.specs.declared.standing.Standing.{Standing}
-use Rattle.pl_context.specs.declared.standing.Standing.TheVariants as stands
+use Rattle.pl_context.specs.declared.standing.Standing.TheVariants as standings
 use Rattle.pl_context.specs.declared.standing.Took.{Took}
 use Rattle.pl_context.specs.declared.standing.Took.TheVariants as took
 use Rattle.pl_context.specs.Standings.{is_over, has_failed}
@@ -110,11 +110,11 @@ module _ {S : Type 0} (meaning : S → Meaning) (stands_after : S → List Event
       let put = ap length (t.out xs at).items ∙ length-append b.items (put_out b.stopped c.up U ++ put_out b.stopped c.down D) in
       let both = length-append (put_out b.stopped c.up U) (put_out b.stopped c.down D) in
       omega (arith, now, up_is, down_is, up, down, put, both)
-  item-more (item.Event x) xs at (took.Failed cause) t = closes-more (stands.Failed Memory) (record (counted Data c) { stage = c'.stage }) t.1.closes
+  item-more (item.Event x) xs at (took.Failed cause) t = closes-more (standings.Failed Memory) (record (counted Data c) { stage = c'.stage }) t.1.closes
   item-more (item.Event x) xs at took.Ended t = absurd t
   item-more (item.Event x) xs at took.Dropped t = absurd t
-  item-more item.End xs at answer t = closes-more stands.Ended (counted Data c) t.1
-  item-more (item.Fail cause) xs at answer t = closes-more (stands.Failed cause) (counted Data c) t.1
+  item-more item.End xs at answer t = closes-more standings.Ended (counted Data c) t.1
+  item-more (item.Fail cause) xs at answer t = closes-more (standings.Failed cause) (counted Data c) t.1
   item-more (item.Flag value) xs at answer t = none-more (counted Data c) t.1 t.2
 
   flag-more : c.flags.lane.kind ≡ Flags → (i : Item) (answer : Took) → TakesFlag (counted Flags c) i b answer c' a → context_done (counted Flags c) + length a.items ≤ context_done c' + length b.items
@@ -127,7 +127,7 @@ module _ {S : Type 0} (meaning : S → Meaning) (stands_after : S → List Event
   flag-more kind (item.Fail cause) answer t = none-more (counted Flags c) t.1 t.2
 
   -- it was given what came, and took an item more
-  pub context-more : (e : Envelope) (answer : Took) → (c.standing ≡ stands.Open → (xs : List Event) × stands_after c.stage xs) → c.flags.lane.kind ≡ Flags
+  pub context-more : (e : Envelope) (answer : Took) → (c.standing ≡ standings.Open → (xs : List Event) × stands_after c.stage xs) → c.flags.lane.kind ≡ Flags
       → ContextTakes meaning stands_after is_spent c e b answer c' a → context_done c + length a.items + 1 ≤ context_done c' + length b.items
   context-more e answer some kind t = by e.lane.kind refl c.standing refl
     where
@@ -136,18 +136,18 @@ module _ {S : Type 0} (meaning : S → Meaning) (stands_after : S → List Event
       one Flags more = omega (arith, more)
 
       by : (k : Kind) → e.lane.kind ≡ k → (s : Standing) → c.standing ≡ s → context_done c + length a.items + 1 ≤ context_done c' + length b.items
-      by Data is stands.Open live = let at = some live in one Data (item-more e.item at.0 at.1 answer (t.open_item is live))
-      by Data is stands.Ended over = let n = t.ended is over in one Data (none-more (counted Data c) n.1 n.2)
-      by k is (stands.Failed cause) over = let n = t.dropped (ap has_failed over) in one e.lane.kind (none-more (counted e.lane.kind c) n.1 n.2)
-      by Flags is stands.Open live = one Flags (flag-more kind e.item answer (t.flags is (ap has_failed live)))
-      by Flags is stands.Ended live = one Flags (flag-more kind e.item answer (t.flags is (ap has_failed live)))
+      by Data is standings.Open live = let at = some live in one Data (item-more e.item at.0 at.1 answer (t.open_item is live))
+      by Data is standings.Ended over = let n = t.ended is over in one Data (none-more (counted Data c) n.1 n.2)
+      by k is (standings.Failed cause) over = let n = t.dropped (ap has_failed over) in one e.lane.kind (none-more (counted e.lane.kind c) n.1 n.2)
+      by Flags is standings.Open live = one Flags (flag-more kind e.item answer (t.flags is (ap has_failed live)))
+      by Flags is standings.Ended live = one Flags (flag-more kind e.item answer (t.flags is (ap has_failed live)))
 
   -- it was made to fail
-  pub failed-more : (cause : Cause) → (c.standing ≡ stands.Open → GivesLast (stands.Failed cause) (record c { failed_by_call = true }) b c' a) → (is_over c.standing ≡ true → (c' ≡ c) × (a ≡ b))
+  pub failed-more : (cause : Cause) → (c.standing ≡ standings.Open → GivesLast (standings.Failed cause) (record c { failed_by_call = true }) b c' a) → (is_over c.standing ≡ true → (c' ≡ c) × (a ≡ b))
       → context_done c + length a.items ≤ context_done c' + length b.items
   failed-more cause closes over = by c.standing refl
     where
       by : (s : Standing) → c.standing ≡ s → context_done c + length a.items ≤ context_done c' + length b.items
-      by stands.Open live = closes-more (stands.Failed cause) (record c { failed_by_call = true }) (closes live)
-      by stands.Ended is = let n = over (ap is_over is) in none-more c n.0 n.1
-      by (stands.Failed other) is = let n = over (ap is_over is) in none-more c n.0 n.1
+      by standings.Open live = closes-more (standings.Failed cause) (record c { failed_by_call = true }) (closes live)
+      by standings.Ended is = let n = over (ap is_over is) in none-more c n.0 n.1
+      by (standings.Failed other) is = let n = over (ap is_over is) in none-more c n.0 n.1

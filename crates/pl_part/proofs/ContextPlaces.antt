@@ -17,7 +17,7 @@ use Rattle.pl_context.specs.declared.added.Added.{Added}
 use Rattle.pl_context.specs.declared.added.Added.TheVariants.{Last, Refused, Discarded}
 use Rattle.pl_context.specs.declared.ports.Port.{Port}
 use Rattle.pl_context.specs.declared.standing.Standing.{Standing}
-use Rattle.pl_context.specs.declared.standing.Standing.TheVariants as stands
+use Rattle.pl_context.specs.declared.standing.Standing.TheVariants as standings
 use Rattle.pl_context.specs.declared.standing.Took.{Took}
 use Rattle.pl_context.specs.declared.standing.Took.TheVariants as took
 use Rattle.pl_context.specs.Standings.{is_over, has_failed}
@@ -84,11 +84,11 @@ module _ {S : Type 0} (meaning : S → Meaning) (stands_after : S → List Event
     -- after whichever events it stood
     item-places : (i : Item) (xs : List Event) → stands_after c.stage xs → (answer : Took) (c' : ContextView S) → TakesItem meaning stands_after is_spent (counted Data c) i b answer c' a → HasPlaces a.stopped lanes
     item-places (item.Event x) xs at took.Ran c' t = same-places (t.out xs at).stopped
-    item-places (item.Event x) xs at (took.Failed cause) c' t = closes-places (stands.Failed Memory) (record (counted Data c) { stage = c'.stage }) c' refl refl t.1.closes
+    item-places (item.Event x) xs at (took.Failed cause) c' t = closes-places (standings.Failed Memory) (record (counted Data c) { stage = c'.stage }) c' refl refl t.1.closes
     item-places (item.Event x) xs at took.Ended c' t = absurd t
     item-places (item.Event x) xs at took.Dropped c' t = absurd t
-    item-places item.End xs at answer c' t = closes-places stands.Ended (counted Data c) c' refl refl t.1
-    item-places (item.Fail cause) xs at answer c' t = closes-places (stands.Failed cause) (counted Data c) c' refl refl t.1
+    item-places item.End xs at answer c' t = closes-places standings.Ended (counted Data c) c' refl refl t.1
+    item-places (item.Fail cause) xs at answer c' t = closes-places (standings.Failed cause) (counted Data c) c' refl refl t.1
     item-places (item.Flag value) xs at answer c' t = same-places (ap (λ (y : OutputsView). y.stopped) t.2)
 
     flag-places : (i : Item) (answer : Took) (c' : ContextView S) → TakesFlag (counted Flags c) i b answer c' a → HasPlaces a.stopped lanes
@@ -102,29 +102,29 @@ module _ {S : Type 0} (meaning : S → Meaning) (stands_after : S → List Event
     flag-places item.End answer c' t = same-places (ap (λ (y : OutputsView). y.stopped) t.2)
     flag-places (item.Fail cause) answer c' t = same-places (ap (λ (y : OutputsView). y.stopped) t.2)
 
-    pub fail-places : (cause : Cause) (c' : ContextView S) → (c.standing ≡ stands.Open → GivesLast (stands.Failed cause) (record c { failed_by_call = true }) b c' a)
+    pub fail-places : (cause : Cause) (c' : ContextView S) → (c.standing ≡ standings.Open → GivesLast (standings.Failed cause) (record c { failed_by_call = true }) b c' a)
         → (is_over c.standing ≡ true → (c' ≡ c) × (a ≡ b)) → HasPlaces a.stopped lanes
     fail-places cause c' closes over = by c.standing refl
       where
         by : (s : Standing) → c.standing ≡ s → HasPlaces a.stopped lanes
-        by stands.Open live = closes-places (stands.Failed cause) (record c { failed_by_call = true }) c' refl refl (closes live)
-        by stands.Ended is = same-places (ap (λ (y : OutputsView). y.stopped) (over (ap is_over is)).1)
-        by (stands.Failed other) is = same-places (ap (λ (y : OutputsView). y.stopped) (over (ap is_over is)).1)
+        by standings.Open live = closes-places (standings.Failed cause) (record c { failed_by_call = true }) c' refl refl (closes live)
+        by standings.Ended is = same-places (ap (λ (y : OutputsView). y.stopped) (over (ap is_over is)).1)
+        by (standings.Failed other) is = same-places (ap (λ (y : OutputsView). y.stopped) (over (ap is_over is)).1)
 
-    pub context-places : (e : Envelope) (c' : ContextView S) (answer : Took) → (c.standing ≡ stands.Open → (xs : List Event) × stands_after c.stage xs)
-        → (e.lane.kind ≡ Data → c.standing ≡ stands.Open → TakesItem meaning stands_after is_spent (counted Data c) e.item b answer c' a)
-        → (e.lane.kind ≡ Data → c.standing ≡ stands.Ended → (answer ≡ took.Ran) × (c' ≡ counted Data c) × (a ≡ b))
+    pub context-places : (e : Envelope) (c' : ContextView S) (answer : Took) → (c.standing ≡ standings.Open → (xs : List Event) × stands_after c.stage xs)
+        → (e.lane.kind ≡ Data → c.standing ≡ standings.Open → TakesItem meaning stands_after is_spent (counted Data c) e.item b answer c' a)
+        → (e.lane.kind ≡ Data → c.standing ≡ standings.Ended → (answer ≡ took.Ran) × (c' ≡ counted Data c) × (a ≡ b))
         → (e.lane.kind ≡ Flags → has_failed c.standing ≡ false → TakesFlag (counted Flags c) e.item b answer c' a)
         → (has_failed c.standing ≡ true → (answer ≡ took.Dropped) × (c' ≡ counted e.lane.kind c) × (a ≡ b))
         → HasPlaces a.stopped lanes
     context-places e c' answer some item ended flag drops = by e.lane.kind refl c.standing refl
       where
         by : (k : Kind) → e.lane.kind ≡ k → (s : Standing) → c.standing ≡ s → HasPlaces a.stopped lanes
-        by Data is stands.Open live = let at = some live in item-places e.item at.0 at.1 answer c' (item is live)
-        by Data is stands.Ended over = same-places (ap (λ (y : OutputsView). y.stopped) (ended is over).2)
-        by k is (stands.Failed cause) over = same-places (ap (λ (y : OutputsView). y.stopped) (drops (ap has_failed over)).2)
-        by Flags is stands.Open live = flag-places e.item answer c' (flag is (ap has_failed live))
-        by Flags is stands.Ended live = flag-places e.item answer c' (flag is (ap has_failed live))
+        by Data is standings.Open live = let at = some live in item-places e.item at.0 at.1 answer c' (item is live)
+        by Data is standings.Ended over = same-places (ap (λ (y : OutputsView). y.stopped) (ended is over).2)
+        by k is (standings.Failed cause) over = same-places (ap (λ (y : OutputsView). y.stopped) (drops (ap has_failed over)).2)
+        by Flags is standings.Open live = flag-places e.item answer c' (flag is (ap has_failed live))
+        by Flags is standings.Ended live = flag-places e.item answer c' (flag is (ap has_failed live))
 
 -- ---- its lanes
 
@@ -178,7 +178,7 @@ module _ {S : Type 0} (meaning : S → Meaning) (stands_after : S → List Event
   flag-lanes (item.Fail cause) answer c' t = ap (λ (z : ContextView S). context_lanes z) t.1
 
   -- they stay
-  pub lanes-stay : (e : Envelope) (answer : Took) (c' : ContextView S) → (c.standing ≡ stands.Open → (xs : List Event) × stands_after c.stage xs) → ContextTakes meaning stands_after is_spent c e b answer c' a → context_lanes c' ≡ context_lanes c
+  pub lanes-stay : (e : Envelope) (answer : Took) (c' : ContextView S) → (c.standing ≡ standings.Open → (xs : List Event) × stands_after c.stage xs) → ContextTakes meaning stands_after is_spent c e b answer c' a → context_lanes c' ≡ context_lanes c
   lanes-stay e answer c' some t = by e.lane.kind refl c.standing refl
     where
       counted-lanes : (k : Kind) → context_lanes (counted k c) ≡ context_lanes c
@@ -186,8 +186,8 @@ module _ {S : Type 0} (meaning : S → Meaning) (stands_after : S → List Event
       counted-lanes Flags = refl
 
       by : (k : Kind) → e.lane.kind ≡ k → (s : Standing) → c.standing ≡ s → context_lanes c' ≡ context_lanes c
-      by Data is stands.Open live = let at = some live in item-lanes e.item at.0 at.1 answer c' (t.open_item is live)
-      by Data is stands.Ended over = ap (λ (z : ContextView S). context_lanes z) (t.ended is over).1
-      by k is (stands.Failed cause) over = ap (λ (z : ContextView S). context_lanes z) (t.dropped (ap has_failed over)).1 ∙ counted-lanes e.lane.kind
-      by Flags is stands.Open live = flag-lanes e.item answer c' (t.flags is (ap has_failed live))
-      by Flags is stands.Ended live = flag-lanes e.item answer c' (t.flags is (ap has_failed live))
+      by Data is standings.Open live = let at = some live in item-lanes e.item at.0 at.1 answer c' (t.open_item is live)
+      by Data is standings.Ended over = ap (λ (z : ContextView S). context_lanes z) (t.ended is over).1
+      by k is (standings.Failed cause) over = ap (λ (z : ContextView S). context_lanes z) (t.dropped (ap has_failed over)).1 ∙ counted-lanes e.lane.kind
+      by Flags is standings.Open live = flag-lanes e.item answer c' (t.flags is (ap has_failed live))
+      by Flags is standings.Ended live = flag-lanes e.item answer c' (t.flags is (ap has_failed live))

@@ -9,7 +9,7 @@ use Rattle.pl_event.specs.declared.stages.Direction.{Direction}
 use Rattle.pl_event.specs.declared.stages.Direction.TheVariants.{Inbound, Outbound, Turn}
 use Rattle.pl_event.specs.Meaning.{Meaning, IsLawful}
 use Rattle.pl_context.specs.ContextViews.{IsHop, has_up, has_down, down_hop, new_context}
-use Rattle.pl_context.specs.declared.standing.Standing.TheVariants as stands
+use Rattle.pl_context.specs.declared.standing.Standing.TheVariants as standings
 use Rattle.pl_context.specs.Contexts.{StandsAfter}
 use Rattle.pl_event.specs.Hops.{same_lane, data_lane}
 use Rattle.pl_event.specs.Worlds.{World}
@@ -62,7 +62,7 @@ module _ {S : Type 0} (world : World) (meaning : S → Meaning) (stands_after : 
     few = record { taken = omega arith; flags_taken = omega arith; up = omega arith; down = omega arith; flags = omega arith };
   }
     where
-      not-ended : stands.Open ≡ stands.Ended → ⊥
+      not-ended : standings.Open ≡ standings.Ended → ⊥
       not-ended e = cc
 
   pub new-starts : (l : Lane) → context_writes (meaning stage).direction (new_context (meaning stage).direction channel hop k stage) l ≡ true

@@ -20,7 +20,7 @@ use Rattle.pl_event.specs.Fitting.{Fits, FitsAsFlag}
 use Rattle.pl_context.specs.declared.added.Added.{Added}
 use Rattle.pl_context.specs.declared.added.Added.TheVariants.{Last, Refused, Discarded}
 use Rattle.pl_context.specs.declared.standing.Standing.{Standing}
-use Rattle.pl_context.specs.declared.standing.Standing.TheVariants as stands
+use Rattle.pl_context.specs.declared.standing.Standing.TheVariants as standings
 use Rattle.pl_context.specs.declared.standing.Took.{Took}
 use Rattle.pl_context.specs.declared.standing.Took.TheVariants as took
 use Rattle.pl_context.specs.Standings.{is_over, has_failed}
@@ -44,10 +44,10 @@ use Rattle.pl_part.proofs.ItemFits.{data-fits, data-may, flag-fits, within-limit
 use Rattle.pl_part.proofs.PortMakes.{both-put, both-append, flag-put}
 use Rattle.pl_event.specs.declared.limits.TheConstants.{MAX_ITEMS}
 
-open-over : (s : Standing) → s ≡ stands.Open → is_over s ≡ true → ⊥
+open-over : (s : Standing) → s ≡ standings.Open → is_over s ≡ true → ⊥
 open-over s e f = both_ways (is_over s) (ap is_over e) f
 
-open-failed : (s : Standing) → s ≡ stands.Open → has_failed s ≡ true → ⊥
+open-failed : (s : Standing) → s ≡ standings.Open → has_failed s ≡ true → ⊥
 open-failed s e f = both_ways (has_failed s) (ap has_failed e) f
 
 next-take : (n : ℕ) (events : List Event) → take (n + 1) events ≡ take (suc n) events
@@ -97,7 +97,7 @@ module _ {S : Type 0} (world : World) (meaning : S → Meaning) (stands_after : 
   taken-few : (i : Item) → Fits events c.taken i → c.taken + 1 ≤ MAX_ITEMS
   taken-few i fits = let within = fits-within events c.taken i fits in let few = h.wired.few in omega (arith, within, few)
 
-  module _ (live : c.standing ≡ stands.Open) where
+  module _ (live : c.standing ≡ standings.Open) where
     up-has : c.up.is_open ≡ true → has_up (meaning c.stage).direction ≡ true
     up-has o = sym (h.up_open live) ∙ o
 
@@ -255,18 +255,18 @@ module _ {S : Type 0} (world : World) (meaning : S → Meaning) (stands_after : 
     not-called standing e = absurd (open-failed c.standing live (h.by_call e))
 
     failing : (cause : Cause) → may_fail world cause ≡ true → (st : S) (t : ℕ) (fb : Bool) → t ≤ MAX_ITEMS → meaning st ≡ meaning c.stage → (b a : OutputsView) (c' : ContextView S)
-        → GivesLast (stands.Failed cause) (record c { stage = st; taken = t; failed_by_call = fb }) b c' a → Stepped b c' a
-    failing cause may st t fb small meant b a c' k = closing (stands.Failed cause) refl st t fb small meant (λ e. refl) (λ f. absurd (both_ways true f refl))
+        → GivesLast (standings.Failed cause) (record c { stage = st; taken = t; failed_by_call = fb }) b c' a → Stepped b c' a
+    failing cause may st t fb small meant b a c' k = closing (standings.Failed cause) refl st t fb small meant (λ e. refl) (λ f. absurd (both_ways true f refl))
         (λ o. let made = (h.stood live).above o in let le = made-le (meaning c.stage).up c.taken events in
         failure-good world c.up.lane (up_of (meaning c.stage) events) c.up.made h.wired.up_kind (h.wired.up (up-has o)) (h.wired.few_up (up-has o)) cause may (omega (arith, made, le)))
         (λ o. let made = (h.stood live).below o in let le = made-le (meaning c.stage).down c.taken events in
         failure-good world c.down.lane (down_of (meaning c.stage) events) c.down.made h.wired.down_kind (h.wired.down (down-has o)) (h.wired.few_down (down-has o)) cause may (omega (arith, made, le)))
         b a c' k
 
-    ending : c.taken ≡ length events → (b a : OutputsView) (c' : ContextView S) → GivesLast stands.Ended (counted Data c) b c' a → Stepped b c' a
+    ending : c.taken ≡ length events → (b a : OutputsView) (c' : ContextView S) → GivesLast standings.Ended (counted Data c) b c' a → Stepped b c' a
     ending last b a c' k =
         let all : take c.taken events ≡ events = take_all c.taken events (omega (arith, last)) in
-        closing stands.Ended refl c.stage (c.taken + 1) c.failed_by_call (taken-few item.End last) refl (not-called stands.Ended) (λ f. (last, refl))
+        closing standings.Ended refl c.stage (c.taken + 1) c.failed_by_call (taken-few item.End last) refl (not-called standings.Ended) (λ f. (last, refl))
         (λ o. end-good world c.up.lane (up_of (meaning c.stage) events) c.up.made h.wired.up_kind (h.wired.up (up-has o)) (h.wired.few_up (up-has o)) ((h.stood live).above o ∙ ap (λ zs. length (up_of (meaning c.stage) zs)) all))
         (λ o. end-good world c.down.lane (down_of (meaning c.stage) events) c.down.made h.wired.down_kind (h.wired.down (down-has o)) (h.wired.few_down (down-has o)) ((h.stood live).below o ∙ ap (λ zs. length (down_of (meaning c.stage) zs)) all))
         b a c' k
@@ -292,18 +292,18 @@ module _ {S : Type 0} (world : World) (meaning : S → Meaning) (stands_after : 
   -- ---- one that has ended or failed
 
   failed-over : (s : Standing) → has_failed s ≡ true → is_over s ≡ true
-  failed-over stands.Open e = e
-  failed-over stands.Ended e = refl
-  failed-over (stands.Failed cause) e = refl
+  failed-over standings.Open e = e
+  failed-over standings.Ended e = refl
+  failed-over (standings.Failed cause) e = refl
 
   -- what it has seen of its lane is all, and stays so
   over-seen : is_over c.standing ≡ true → has_failed c.standing ≡ false → take c.taken events ≡ take (c.taken + 1) events
   over-seen over sound = by c.standing refl
     where
       by : (s : Standing) → c.standing ≡ s → take c.taken events ≡ take (c.taken + 1) events
-      by stands.Open is = absurd (open-over c.standing is over)
-      by stands.Ended is = let whole = h.ended is in take_all c.taken events (omega (arith, whole)) ∙ sym (take_all (c.taken + 1) events (omega (arith, whole)))
-      by (stands.Failed cause) is = absurd (both_ways (has_failed c.standing) sound (ap has_failed is))
+      by standings.Open is = absurd (open-over c.standing is over)
+      by standings.Ended is = let whole = h.ended is in take_all c.taken events (omega (arith, whole)) ∙ sym (take_all (c.taken + 1) events (omega (arith, whole)))
+      by (standings.Failed cause) is = absurd (both_ways (has_failed c.standing) sound (ap has_failed is))
 
   counted-over : is_over c.standing ≡ true → c.taken + 1 ≤ MAX_ITEMS → (b a : OutputsView) (c' : ContextView S) → c' ≡ counted Data c → a ≡ b → Stepped b c' a
   counted-over over small b a c' same none = (
@@ -402,12 +402,12 @@ module _ {S : Type 0} (world : World) (meaning : S → Meaning) (stands_after : 
     pub next-limit : e.number < number_limit e.lane.kind
     next-limit = within-limit world e good c.channel c.hop enters.channel enters.hop events h.wired.own c.taken h.wired.few (here Data)
 
-    pub next-few : e.lane.kind ≡ Data → c.standing ≡ stands.Open → MakesFew meaning stands_after c e.item
+    pub next-few : e.lane.kind ≡ Data → c.standing ≡ standings.Open → MakesFew meaning stands_after c e.item
     next-few is live = few-open live e.item (next-fits is)
 
     pub context-taken : (b a : OutputsView) (c' : ContextView S) (answer : Took) → meaning c'.stage ≡ meaning c.stage
-        → (e.lane.kind ≡ Data → c.standing ≡ stands.Open → TakesItem meaning stands_after is_spent (counted Data c) e.item b answer c' a)
-        → (e.lane.kind ≡ Data → c.standing ≡ stands.Ended → (answer ≡ took.Ran) × (c' ≡ counted Data c) × (a ≡ b))
+        → (e.lane.kind ≡ Data → c.standing ≡ standings.Open → TakesItem meaning stands_after is_spent (counted Data c) e.item b answer c' a)
+        → (e.lane.kind ≡ Data → c.standing ≡ standings.Ended → (answer ≡ took.Ran) × (c' ≡ counted Data c) × (a ≡ b))
         → (e.lane.kind ≡ Flags → has_failed c.standing ≡ false → TakesFlag (counted Flags c) e.item b answer c' a)
         → (has_failed c.standing ≡ true → (answer ≡ took.Dropped) × (c' ≡ counted e.lane.kind c) × (a ≡ b))
         → Stepped b c' a
@@ -420,17 +420,17 @@ module _ {S : Type 0} (world : World) (meaning : S → Meaning) (stands_after : 
         next is = taken-few e.item (next-fits is)
 
         by : (k : Kind) → e.lane.kind ≡ k → (s : Standing) → c.standing ≡ s → Stepped b c' a
-        by Data is stands.Open live = taken-open live e.item (next-fits is) (data-may world e good is) answer b a c' meant (item is live)
-        by Data is stands.Ended over = let t = ended is over in counted-over (ap is_over over) (next is) b a c' t.1 t.2
-        by Data is (stands.Failed cause) over = let t = drops (ap has_failed over) in dropped e.lane.kind (ap has_failed over) next small b a c' t.1 t.2
-        by Flags is stands.Open live = flags-taken e.item (flag-fits world e good is c.flags_taken (here Flags is)) (small is) (ap has_failed live) answer b a c' (flag is (ap has_failed live))
-        by Flags is stands.Ended live = flags-taken e.item (flag-fits world e good is c.flags_taken (here Flags is)) (small is) (ap has_failed live) answer b a c' (flag is (ap has_failed live))
-        by Flags is (stands.Failed cause) over = let t = drops (ap has_failed over) in dropped e.lane.kind (ap has_failed over) next small b a c' t.1 t.2
+        by Data is standings.Open live = taken-open live e.item (next-fits is) (data-may world e good is) answer b a c' meant (item is live)
+        by Data is standings.Ended over = let t = ended is over in counted-over (ap is_over over) (next is) b a c' t.1 t.2
+        by Data is (standings.Failed cause) over = let t = drops (ap has_failed over) in dropped e.lane.kind (ap has_failed over) next small b a c' t.1 t.2
+        by Flags is standings.Open live = flags-taken e.item (flag-fits world e good is c.flags_taken (here Flags is)) (small is) (ap has_failed live) answer b a c' (flag is (ap has_failed live))
+        by Flags is standings.Ended live = flags-taken e.item (flag-fits world e good is c.flags_taken (here Flags is)) (small is) (ap has_failed live) answer b a c' (flag is (ap has_failed live))
+        by Flags is (standings.Failed cause) over = let t = drops (ap has_failed over) in dropped e.lane.kind (ap has_failed over) next small b a c' t.1 t.2
 
   -- ---- it is made to fail
 
   pub context-failed : (cause : Cause) → may_fail world cause ≡ true → (b a : OutputsView) (c' : ContextView S)
-      → (c.standing ≡ stands.Open → GivesLast (stands.Failed cause) (record c { failed_by_call = true }) b c' a)
+      → (c.standing ≡ standings.Open → GivesLast (standings.Failed cause) (record c { failed_by_call = true }) b c' a)
       → (is_over c.standing ≡ true → (c' ≡ c) × (a ≡ b))
       → Stepped b c' a
   context-failed cause may b a c' closes over = by c.standing refl
@@ -440,6 +440,6 @@ module _ {S : Type 0} (world : World) (meaning : S → Meaning) (stands_after : 
           (h, makes-none world (context_writes (meaning c.stage).direction c) (context_came (meaning c.stage).direction c) b b refl refl)
 
       by : (s : Standing) → c.standing ≡ s → Stepped b c' a
-      by stands.Open live = failing live cause may c.stage c.taken true h.few.taken refl b a c' (closes live)
-      by stands.Ended is = same (over (ap is_over is))
-      by (stands.Failed other) is = same (over (ap is_over is))
+      by standings.Open live = failing live cause may c.stage c.taken true h.few.taken refl b a c' (closes live)
+      by standings.Ended is = same (over (ap is_over is))
+      by (standings.Failed other) is = same (over (ap is_over is))

@@ -18,7 +18,7 @@ use Rattle.pl_event.specs.Inputs.{Bursts, burst_events, recorded_input}
 use Rattle.pl_event.specs.Meaning.{Meaning, up_of, down_of}
 use Rattle.pl_event.specs.Worlds.{World, content_of}
 use Rattle.pl_context.specs.declared.standing.Standing.{Standing}
-use Rattle.pl_context.specs.declared.standing.Standing.TheVariants as stands
+use Rattle.pl_context.specs.declared.standing.Standing.TheVariants as standings
 use Rattle.pl_context.specs.Standings.{cause_of, has_failed}
 use Rattle.pl_context.specs.TailViews.{TailView}
 use Rattle.pl_context.specs.ContextViews.{ContextView, has_down, down_hop}
@@ -46,7 +46,7 @@ may-grow world world' (Some Aborted) same may = refl
 may-grow world world' (Some Transport) same may = refl
 
 module _ (world world' : World) (events rest : List Event) where
-  tail-grows : (t : TailView) → TailHoldsWith world events t → (t.standing ≡ stands.Ended → events ++ rest ≡ events)
+  tail-grows : (t : TailView) → TailHoldsWith world events t → (t.standing ≡ standings.Ended → events ++ rest ≡ events)
       → content_of world' (data_lane t.channel t.hop) ≡ Some (events ++ rest) → length (events ++ rest) + 1 < MAX_ITEMS → MayFailFor world' (cause_of t.standing)
       → TailHoldsWith world' (events ++ rest) t
   tail-grows t s all own few may =
@@ -54,6 +54,8 @@ module _ (world world' : World) (events rest : List Event) where
       record {
         own = own;
         few = few;
+        gone = s.gone;
+        handed = s.handed;
         taken = λ o. let x = s.taken o in let n = x.0 in (omega (arith, n, size), x.1 ∙ sym (take-append-le t.taken events rest n));
         ended = λ e. s.ended e ∙ sym (all e);
         failed = λ f. let x = s.failed f in let n = x.1 in (x.0, omega (arith, n, size), x.2 ∙ sym (take-append-le x.0 events rest n));
@@ -66,15 +68,15 @@ module _ (world world' : World) (events rest : List Event) where
       }
 
   module _ {S : Type 0} (meaning : S → Meaning) (stands_after : S → List Event → Type 0) (m : Meaning) (c : ContextView S) (s : HoldsWith world meaning stands_after m events c)
-      (all : c.standing ≡ stands.Ended → events ++ rest ≡ events) where
-    open-taken : c.standing ≡ stands.Open → take c.taken (events ++ rest) ≡ take c.taken events
+      (all : c.standing ≡ standings.Ended → events ++ rest ≡ events) where
+    open-taken : c.standing ≡ standings.Open → take c.taken (events ++ rest) ≡ take c.taken events
     open-taken o = take-append-le c.taken events rest (s.within o)
 
     -- what it took, while it has not failed
     same-taken : (standing : Standing) → c.standing ≡ standing → has_failed standing ≡ false → take c.taken (events ++ rest) ≡ take c.taken events
-    same-taken stands.Open is f = open-taken is
-    same-taken stands.Ended is f = ap (λ (xs : List Event). take c.taken xs) (all is)
-    same-taken (stands.Failed cause) is f = absurd (both_ways true f refl)
+    same-taken standings.Open is f = open-taken is
+    same-taken standings.Ended is f = ap (λ (xs : List Event). take c.taken xs) (all is)
+    same-taken (standings.Failed cause) is f = absurd (both_ways true f refl)
 
     context-grows : IsWired world' m (events ++ rest) c.channel c.hop c.up.lane c.down.lane c.flags.lane → HoldsWith world' meaning stands_after m (events ++ rest) c
     context-grows wired =
@@ -130,11 +132,15 @@ reads-on plan reads failed r s more =
 
 module _ {T : Type 0} (state : T → TransportState) (burst : List Element) (h : HeadView T) where
   -- it has taken as much
-  head-took : (events rest : List Event) → HeadTook state events h → (h.standing ≡ stands.Ended → events ++ rest ≡ events) → HeadTook state (events ++ rest) (fed_head burst h)
+  head-took : (events rest : List Event) → HeadTook state events h → (h.standing ≡ standings.Ended → events ++ rest ≡ events) → HeadTook state (events ++ rest) (fed_head burst h)
   head-took events rest s all =
       let size = length-append events rest in
       let within = s.within in
       record {
+        gone = s.gone;
+        bytes = s.bytes;
+        flushed = s.flushed;
+        never = s.never;
         ys = s.ys;
         zs = s.zs;
         sizes = s.sizes;
@@ -148,7 +154,7 @@ module _ {T : Type 0} (state : T → TransportState) (burst : List Element) (h :
         none_late = s.none_late;
       }
 
-  head-grows : (world world' : World) (rest : List Event) (s : HeadHolds state world h) → world'.refuses ≡ world.refuses → (h.standing ≡ stands.Ended → s.events ++ rest ≡ s.events)
+  head-grows : (world world' : World) (rest : List Event) (s : HeadHolds state world h) → world'.refuses ≡ world.refuses → (h.standing ≡ standings.Ended → s.events ++ rest ≡ s.events)
       → content_of world' (data_lane h.channel h.hop) ≡ Some (s.events ++ rest) → length (s.events ++ rest) + 1 < MAX_ITEMS
       → content_of world' (data_lane h.channel 0) ≡ Some (recorded_input s.plan.bursts ++ burst_events burst) → length (recorded_input s.plan.bursts ++ burst_events burst) + 1 < MAX_ITEMS
       → takes_bursts h.input ≡ true → HeadHolds state world' (fed_head burst h)

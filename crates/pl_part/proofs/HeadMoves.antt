@@ -20,7 +20,7 @@ use Rattle.pl_event.specs.Worlds.{World, MayCome, content_of, may_fail, closes}
 use Rattle.pl_event.proofs.SameLanes.{same_lane-equal, same_lane-self}
 use Rattle.pl_context.specs.declared.ports.Port.{Port}
 use Rattle.pl_context.specs.declared.standing.Standing.{Standing}
-use Rattle.pl_context.specs.declared.standing.Standing.TheVariants as stands
+use Rattle.pl_context.specs.declared.standing.Standing.TheVariants as standings
 use Rattle.pl_context.specs.declared.standing.Took.{Took}
 use Rattle.pl_context.specs.declared.standing.Took.TheVariants as took
 use Rattle.pl_context.specs.Standings.{is_over, cause_of}
@@ -38,10 +38,11 @@ use Rattle.pl_head.specs.declared.heads.ReadStep.{ReadStep}
 use Rattle.pl_head.specs.declared.heads.ReadStep.TheVariants as reading
 use Rattle.pl_head.specs.Marks.{Change, Removed, flags}
 use Rattle.pl_head.specs.Transports.{TransportState}
+use Rattle.pl_head.specs.Writes.{out}
 use Rattle.pl_head.specs.MarksStand.{SendsFlags}
 use Rattle.pl_head.specs.ReadSteps.{entrance, bursts_read, plan_steps, has_step, read_items, step_items, is_abort, brings_failure, brings_abort, next_step_items, steps_after}
 use Rattle.pl_head.specs.InputStand.{InputView, InputStands}
-use Rattle.pl_head.specs.HeadStand.{HeadView, BufferAfter, HeadStandsAfter, ReadsStand, Aborts, EntersHead, lane_over, Answers, waiting_at, events_before, events_from, item_sizes, standing_after, cause_of_item, cause_of_step, step_sizes, HasFewFlags}
+use Rattle.pl_head.specs.HeadStand.{HeadView, BufferAfter, HeadStandsAfter, ReadsStand, Aborts, EntersHead, lane_over, Answers, waiting_at, events_before, events_from, item_sizes, standing_after, cause_of_item, cause_of_step, step_sizes, HasFewFlags, gone_of}
 use Rattle.pl_head.proofs.ReadSteps.{items_of_step, number_of_step, abort_is, stands_after}
 use Rattle.pl_head.proofs.FlagSteps.{places_stay}
 use Rattle.pl_part.specs.ContextHolds.{port_point}
@@ -62,10 +63,10 @@ use Rattle.pl_part.proofs.ContextCounts.{puts-length, offered-length}
 
 -- ---- a lane that is open
 
-open-is : (s : Standing) (closed : Bool) → (is_over s || closed) ≡ false → s ≡ stands.Open
-open-is stands.Open closed e = refl
-open-is stands.Ended closed e = cc
-open-is (stands.Failed c) closed e = cc
+open-is : (s : Standing) (closed : Bool) → (is_over s || closed) ≡ false → s ≡ standings.Open
+open-is standings.Open closed e = refl
+open-is standings.Ended closed e = cc
+open-is (standings.Failed c) closed e = cc
 
 -- ---- the lanes of a head
 
@@ -137,7 +138,7 @@ module _ {T : Type 0} (state : T → TransportState) (h : HeadView T) where
 
 -- It has taken nothing, and is at its place; it holds again, and what it has put is the next of its lanes.
 pub record Moved {T : Type 0} (state : T → TransportState) (world : World) (plan : ReadPlan) (events : List Event) (h h' : HeadView T) (b a : OutputsView) : Type 0 where
-  pub place : (h'.channel ≡ h.channel) × (h'.hop ≡ h.hop)
+  pub same_node : (h'.channel ≡ h.channel) × (h'.hop ≡ h.hop) × (gone_of h' ≡ gone_of h)
   pub taken : h'.taken ≡ h.taken
   pub holds : HeadHoldsWith state world plan events h'
   pub makes : Makes world (head_writes h) (head_came h) (head_came h') b a
@@ -175,7 +176,7 @@ module _ {T : Type 0} (state : T → TransportState) (world : World) (plan : Rea
   Moves z b a = Moved state world plan events h z b a
 
   -- it holds again, at its place
-  again : (h' : HeadView T) → h'.channel ≡ h.channel → h'.hop ≡ h.hop → h'.taken ≤ length events + 1 → HeadTook state events h' → (reads : ℕ) × (failed : Bool) × ReadsStand plan reads failed h'
+  pub again : (h' : HeadView T) → h'.channel ≡ h.channel → h'.hop ≡ h.hop → h'.taken ≤ length events + 1 → HeadTook state events h' → (reads : ℕ) × (failed : Bool) × ReadsStand plan reads failed h'
       → h'.input.port.lane ≡ h.input.port.lane → h'.buffer.flags.lane ≡ h.buffer.flags.lane → HasFewFlags h' → MayFailFor world (cause_of h'.standing) → MayFailFor world h'.failure → Held h'
   again h' c p most t reads entrance fl few may itself = record {
     own = (λ i. content_of world (data_lane (c i) (p i))) ∙ k.own;
@@ -301,7 +302,7 @@ module _ {T : Type 0} (state : T → TransportState) (world : World) (plan : Rea
 
       -- its lane is open
       module _ (live : lane_over h ≡ false) where
-        is-open : h.standing ≡ stands.Open
+        is-open : h.standing ≡ standings.Open
         is-open = open-is h.standing h.is_closed live
 
         count : h.taken ≡ k.took.count
@@ -327,45 +328,65 @@ module _ {T : Type 0} (state : T → TransportState) (world : World) (plan : Rea
         over-not : {G : Type 0} (s : Standing) → h'.standing ≡ s → is_over s ≡ false → is_over h'.standing ≡ true → G
         over-not s is n o = absurd (both_ways (is_over h'.standing) (ap is_over is ∙ n) o)
 
-        ended-not : {G : Type 0} (s : Standing) → h'.standing ≡ s → (s ≡ stands.Ended → ⊥) → h'.standing ≡ stands.Ended → G
+        ended-not : {G : Type 0} (s : Standing) → h'.standing ≡ s → (s ≡ standings.Ended → ⊥) → h'.standing ≡ standings.Ended → G
         ended-not s is n o = absurd (n (sym is ∙ o))
 
-        open-no : stands.Open ≡ stands.Ended → ⊥
+        open-no : standings.Open ≡ standings.Ended → ⊥
         open-no q = absurd (both_ways false refl (ap is_over q))
+
+        -- all that it took, the forgotten first
+        seen : k.took.gone ++ (k.took.ys ++ k.took.zs) ≡ take k.took.count events
+        seen = sym (append_assoc k.took.gone k.took.ys k.took.zs) ∙ k.took.in_order
+
+        gone-now : h'.gone ≡ length (out k.took.gone)
+        gone-now = ap (λ (z : HeadView T). z.gone) t.same ∙ k.took.bytes
+
+        never-now : h'.has_forgotten ≡ false → k.took.gone ≡ []
+        never-now none = k.took.never (ap (λ (z : HeadView T). z.has_forgotten) (sym t.same) ∙ none)
 
         -- the item is the next event of its lane
         one-more : (ys zs : List Event) (x : Event) → slice_get events h.taken ≡ Some x → ys ++ zs ≡ (k.took.ys ++ k.took.zs) ++ x ∷ []
-            → HeadStandsAfter state h' ys zs (some-sizes k.took.ys k.took.sizes) → h'.standing ≡ stands.Open → HeadTook state events h'
+            → HeadStandsAfter state h' ys zs (some-sizes k.took.ys k.took.sizes) → h'.standing ≡ standings.Open → HeadTook state events h'
         one-more ys zs x fits same after standing =
             let at : slice_get events k.took.count ≡ Some x = ap (λ n. slice_get events n) (sym count) ∙ fits in
             let next : k.took.count + 1 ≡ suc k.took.count = omega arith in
             let within = slice_get_within events k.took.count x at in
             let one = t.taken in
             record {
+              gone = k.took.gone;
+              bytes = gone-now;
+              flushed = k.took.flushed;
+              never = never-now;
               ys = ys;
               zs = zs;
               sizes = some-sizes k.took.ys k.took.sizes;
               after = after;
               count = k.took.count + 1;
               within = omega (arith, within);
-              in_order = same ∙ ap (λ (seen : List Event). seen ++ x ∷ []) k.took.in_order ∙ sym (split-at events k.took.count x at).2 ∙ ap (λ n. take n events) (sym next);
+              in_order =
+                  append_assoc k.took.gone ys zs ∙ ap (λ (new : List Event). k.took.gone ++ new) same ∙ sym (append_assoc k.took.gone (k.took.ys ++ k.took.zs) (x ∷ []))
+                  ∙ ap (λ (all : List Event). all ++ x ∷ []) seen ∙ sym (split-at events k.took.count x at).2 ∙ ap (λ n. take n events) (sym next);
               most = omega (arith, one, count);
               running = λ o. omega (arith, one, count);
-              ended = λ o. ended-not stands.Open standing open-no o;
-              none_late = λ o. over-not stands.Open standing refl o;
+              ended = λ o. ended-not standings.Open standing open-no o;
+              none_late = λ o. over-not standings.Open standing refl o;
             }
 
         -- The item closes its lane.
         no-more : HeadStandsAfter state h' (k.took.ys ++ []) (k.took.zs ++ []) (some-sizes k.took.ys k.took.sizes) → lane_over h' ≡ true
-            → (h'.standing ≡ stands.Ended → h.taken ≡ length events) → (is_over h'.standing ≡ true → k.took.zs ≡ []) → HeadTook state events h'
+            → (h'.standing ≡ standings.Ended → h.taken ≡ length events) → (is_over h'.standing ≡ true → k.took.zs ≡ []) → HeadTook state events h'
         no-more after over ended none = record {
+          gone = k.took.gone;
+          bytes = gone-now;
+          flushed = k.took.flushed;
+          never = never-now;
           ys = k.took.ys ++ [];
           zs = k.took.zs ++ [];
           sizes = some-sizes k.took.ys k.took.sizes;
           after = after;
           count = k.took.count;
           within = k.took.within;
-          in_order = (λ i. append-nil k.took.ys i ++ append-nil k.took.zs i) ∙ k.took.in_order;
+          in_order = (λ i. (k.took.gone ++ append-nil k.took.ys i) ++ append-nil k.took.zs i) ∙ k.took.in_order;
           most = let one = t.taken in omega (arith, one, count);
           running = λ o. absurd (both_ways (lane_over h') o over);
           ended = λ o. sym count ∙ ended o;
@@ -391,9 +412,9 @@ module _ {T : Type 0} (state : T → TransportState) (world : World) (plan : Rea
             let standing = standing-now false (item.Fail c) (ap is_some none) ei in
             no-more (stood-now false (item.Fail c) r (ap is_some none) ei er)
             (or_left (is_over h'.standing) h'.is_closed (ap is_over standing))
-            (λ o. ended-not (stands.Failed c) standing (λ q. failed-no c q) o) (λ o. none-before none)
+            (λ o. ended-not (standings.Failed c) standing (λ q. failed-no c q) o) (λ o. none-before none)
           where
-            failed-no : (c : Cause) → stands.Failed c ≡ stands.Ended → ⊥
+            failed-no : (c : Cause) → standings.Failed c ≡ standings.Ended → ⊥
             failed-no c q = cc
         first-took none (item.Flag v) ei fits r er ans = absurd fits
 
@@ -406,11 +427,11 @@ module _ {T : Type 0} (state : T → TransportState) (world : World) (plan : Rea
         late-took c f item.End ei fits =
             let standing = standing-now true item.End (ap is_some f) ei in
             no-more (stood-now true item.End answer (ap is_some f) ei refl) (or_right (is_over h'.standing) h'.is_closed (closed-now true item.End (ap is_some f) ei))
-            (λ o. ended-not stands.Open standing open-no o) (λ o. over-not stands.Open standing refl o)
+            (λ o. ended-not standings.Open standing open-no o) (λ o. over-not standings.Open standing refl o)
         late-took c f (item.Fail d) ei fits =
             let standing = standing-now true (item.Fail d) (ap is_some f) ei in
             no-more (stood-now true (item.Fail d) answer (ap is_some f) ei refl) (or_right (is_over h'.standing) h'.is_closed (closed-now true (item.Fail d) (ap is_some f) ei))
-            (λ o. ended-not stands.Open standing open-no o) (λ o. over-not stands.Open standing refl o)
+            (λ o. ended-not standings.Open standing open-no o) (λ o. over-not standings.Open standing refl o)
         late-took c f (item.Flag v) ei fits = absurd fits
 
         live-took : (f : Option Cause) → h.failure ≡ f → HeadTook state events h'
@@ -421,7 +442,7 @@ module _ {T : Type 0} (state : T → TransportState) (world : World) (plan : Rea
       over-took : lane_over h ≡ true → HeadTook state events h'
       over-took over =
           subst (λ (z : HeadView T). HeadTook state events z) (sym (t.over over).1)
-          (took-again state events h (record h { taken = h'.taken }) k.took k.took.sizes k.took.after refl
+          (took-again state events h (record h { taken = h'.taken }) k.took k.took.sizes k.took.after refl refl
           (let most = k.took.most in let one = t.taken in omega (arith, most, one)) (λ live. absurd (both_ways (lane_over h) live over)))
 
       now-took : HeadTook state events h'
@@ -504,7 +525,7 @@ module _ {T : Type 0} (state : T → TransportState) (world : World) (plan : Rea
     write-took : HeadTook state events h'
     write-took =
         took-same state events h h' k.took (k.took.sizes ++ step_sizes answer (waiting_at state h k.took.ys) (waiting_at state h' k.took.ys)) (w.stood k.took.ys k.took.zs k.took.sizes k.took.after)
-        (ap (λ (z : HeadView T). z.standing) w.same) write-taken (ap (λ (z : HeadView T). lane_over z) w.same)
+        (ap (λ (z : HeadView T). z.standing) w.same) (ap (λ (z : HeadView T). gone_of z) w.same) write-taken (ap (λ (z : HeadView T). lane_over z) w.same)
 
     write-holds : Held h'
     write-holds =
@@ -530,7 +551,7 @@ module _ {T : Type 0} (state : T → TransportState) (world : World) (plan : Rea
 
     pub write-moved : Moves h' b a
     write-moved = record {
-      place = (ap (λ (z : HeadView T). z.channel) w.same, ap (λ (z : HeadView T). z.hop) w.same);
+      same_node = (ap (λ (z : HeadView T). z.channel) w.same, ap (λ (z : HeadView T). z.hop) w.same, ap (λ (z : HeadView T). gone_of z) w.same);
       taken = write-taken;
       holds = write-holds;
       makes = write-makes;
@@ -564,7 +585,7 @@ module _ {T : Type 0} (state : T → TransportState) (world : World) (plan : Rea
     abort-took : HeadTook state events h'
     abort-took =
         took-same state events h h' k.took (k.took.sizes ++ Removed (waiting_at state h k.took.ys) ∷ []) (f.stands k.took.ys k.took.zs k.took.sizes k.took.after)
-        (ap (λ (z : HeadView T). z.standing) f.same) (ap (λ (z : HeadView T). z.taken) f.same) (ap (λ (z : HeadView T). lane_over z) f.same)
+        (ap (λ (z : HeadView T). z.standing) f.same) (ap (λ (z : HeadView T). gone_of z) f.same) (ap (λ (z : HeadView T). z.taken) f.same) (ap (λ (z : HeadView T). lane_over z) f.same)
 
     abort-holds : Held h'
     abort-holds =
@@ -595,7 +616,7 @@ module _ {T : Type 0} (state : T → TransportState) (world : World) (plan : Rea
 
     abort-moved : Moves h' b a
     abort-moved = record {
-      place = (ap (λ (z : HeadView T). z.channel) f.same, ap (λ (z : HeadView T). z.hop) f.same);
+      same_node = (ap (λ (z : HeadView T). z.channel) f.same, ap (λ (z : HeadView T). z.hop) f.same, ap (λ (z : HeadView T). gone_of z) f.same);
       taken = ap (λ (z : HeadView T). z.taken) f.same;
       holds = abort-holds;
       makes = abort-makes;
@@ -608,7 +629,7 @@ module _ {T : Type 0} (state : T → TransportState) (world : World) (plan : Rea
   -- nothing moves
   stays : (b : OutputsView) → Moves h b b
   stays b = record {
-    place = (refl, refl);
+    same_node = (refl, refl, refl);
     taken = refl;
     holds = k;
     makes = stays-makes h b b refl refl;
@@ -675,7 +696,7 @@ module _ {T : Type 0} (state : T → TransportState) (world : World) (plan : Rea
 
         step-took : HeadTook state events h'
         step-took =
-            subst (λ (z : HeadView T). HeadTook state events z) (sym same) (took-same state events h (record h { input = h'.input }) k.took k.took.sizes k.took.after refl refl refl)
+            subst (λ (z : HeadView T). HeadTook state events z) (sym same) (took-same state events h (record h { input = h'.input }) k.took k.took.sizes k.took.after refl refl refl refl)
 
         step-holds : Held h'
         step-holds =
@@ -700,7 +721,7 @@ module _ {T : Type 0} (state : T → TransportState) (world : World) (plan : Rea
 
         step-moved : Moves h' b a
         step-moved = record {
-          place = (ap (λ (z : HeadView T). z.channel) same, ap (λ (z : HeadView T). z.hop) same);
+          same_node = (ap (λ (z : HeadView T). z.channel) same, ap (λ (z : HeadView T). z.hop) same, ap (λ (z : HeadView T). gone_of z) same);
           taken = ap (λ (z : HeadView T). z.taken) same;
           holds = step-holds;
           makes = step-makes;
@@ -740,7 +761,7 @@ given : {T : Type 0} (state : T → TransportState) (h h' : HeadView T) (b a : O
 given state h h' b a some moved =
     let one = moved some.0 some.1.plan some.1.events some.1.holds in
     record {
-      place = one.place;
+      same_node = one.same_node;
       taken = one.taken;
       holds = λ world held. record { plan = held.plan; events = held.events; holds = (moved world held.plan held.events held.holds).holds };
       made = λ world held. (moved world held.plan held.events held.holds).makes;

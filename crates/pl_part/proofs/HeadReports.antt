@@ -1,5 +1,5 @@
 -- What a head has written, by what its lane carries.
-use Rattle.std.proofs.Common.{◌≡◌, ℕ, true, false, List, [], ◌∷◌, ◌++◌, drop, Option, Some, None, refl, sym, ap, ◌∙◌, ⊎_elim, append_assoc}
+use Rattle.std.proofs.Common.{◌≡◌, ℕ, true, false, List, [], ◌∷◌, ◌++◌, length, drop, Option, Some, None, refl, sym, ap, ◌∙◌, ⊎_elim, append_assoc}
 use Rattle.std.proofs.lemmas.List.{take-append-drop}
 use Rattle.std.proofs.lemmas.Bool.{cases_Bool, cond-true}
 use Rattle.pl_event.specs.declared.events.Event.{Event}
@@ -13,7 +13,8 @@ use Rattle.pl_head.specs.Transports.{TransportState}
 use Rattle.pl_head.specs.HeadStand.{HeadView, BufferAfter, HeadStandsAfter}
 use Rattle.pl_head.proofs.Buffering.{bytes_of-append}
 use Rattle.pl_head.proofs.Flushing.{flushed-none, has_flush-longer}
-use Rattle.pl_part.specs.HeadHolds.{HeadHolds}
+use Rattle.pl_head.proofs.Forgetting.{out-behind}
+use Rattle.pl_part.specs.HeadHolds.{HeadHolds, HeadTook}
 
 -- what is flushed of the first events begins what is flushed of all
 flushed-prefix : (ys more : List Event) → (rest : List (Option (List ℕ))) × (flushed_writes ys ++ rest ≡ flushed_writes (ys ++ more))
@@ -39,6 +40,11 @@ out-prefix ys more =
     )
 
 module _ {T : Type 0} (state : T → TransportState) (h : HeadView T) where
+  -- all that its lane carries, the forgotten first
+  whole : (events : List Event) (t : HeadTook state events h) → t.gone ++ ((t.ys ++ t.zs) ++ drop t.count events) ≡ events
+  whole events t =
+      sym (append_assoc t.gone (t.ys ++ t.zs) (drop t.count events)) ∙ ap (λ (es : List Event). es ++ drop t.count events) (sym (append_assoc t.gone t.ys t.zs) ∙ t.in_order) ∙ take-append-drop t.count events
+
   accepted-prefix : (ys zs : List Event) (sizes : List Change) → HeadStandsAfter state h ys zs sizes → (rest : List ℕ) × ((state h.transport).accepted ++ rest ≡ out ys)
   accepted-prefix ys zs sizes after = by h.failure after
     where
@@ -46,17 +52,22 @@ module _ {T : Type 0} (state : T → TransportState) (h : HeadView T) where
       by None a = (a.1.left, a.1.output)
       by (Some c) a = (a.left, a.output)
 
-  -- the bytes that were accepted begin the output of all that its lane carries
+  -- the bytes that were accepted begin, behind the output of what it has forgotten, that of all that its lane carries
+  pub bytes-behind : (events : List Event) (t : HeadTook state events h) → (rest : List ℕ) × (out t.gone ++ (state h.transport).accepted ++ rest ≡ out events)
+  bytes-behind events t =
+      let first = accepted-prefix t.ys t.zs t.sizes t.after in
+      let next = out-prefix t.ys (t.zs ++ drop t.count events) in (
+        first.0 ++ next.0,
+        append_assoc (out t.gone) (state h.transport).accepted (first.0 ++ next.0)
+            ∙ ap (λ (bs : List ℕ). out t.gone ++ bs) (sym (append_assoc (state h.transport).accepted first.0 next.0) ∙ ap (λ (bs : List ℕ). bs ++ next.0) first.1 ∙ next.1)
+            ∙ sym (out-behind t.gone (t.ys ++ (t.zs ++ drop t.count events)) t.flushed)
+            ∙ ap (λ (es : List Event). out (t.gone ++ es)) (sym (append_assoc t.ys t.zs (drop t.count events)))
+            ∙ ap out (whole events t),
+      )
+
   pub bytes-begin : (world : World) → HeadHolds state world h
-      → (events : List Event) × (content_of world (data_lane h.channel h.hop) ≡ Some events) × (rest : List ℕ) × ((state h.transport).accepted ++ rest ≡ out events)
+      → (events : List Event) × (content_of world (data_lane h.channel h.hop) ≡ Some events) × (gone rest : List ℕ) × (length gone ≡ h.gone) × (gone ++ (state h.transport).accepted ++ rest ≡ out events)
   bytes-begin world k =
       let t = k.holds.took in
-      let first = accepted-prefix t.ys t.zs t.sizes t.after in
-      let next = out-prefix t.ys (t.zs ++ drop t.count k.events) in
-      let all : t.ys ++ (t.zs ++ drop t.count k.events) ≡ k.events =
-      sym (append_assoc t.ys t.zs (drop t.count k.events)) ∙ ap (λ (seen : List Event). seen ++ drop t.count k.events) t.in_order ∙ take-append-drop t.count k.events in (
-        k.events,
-        k.holds.own,
-        first.0 ++ next.0,
-        sym (append_assoc (state h.transport).accepted first.0 next.0) ∙ ap (λ (bs : List ℕ). bs ++ next.0) first.1 ∙ next.1 ∙ ap out all,
-      )
+      let b = bytes-behind k.events t in
+      (k.events, k.holds.own, out t.gone, b.0, sym t.bytes, b.1)

@@ -1,18 +1,23 @@
 -- What a head took of its lane, when it has taken no more events.
-use Rattle.std.proofs.Common.{◌≡◌, ◌≤◌, false, [], List, refl, sym, ap, ◌∙◌, arith}
+use Rattle.std.proofs.Common.{◌≡◌, ℕ, ◌≤◌, Bool, false, [], List, refl, sym, ap, ◌∙◌, arith}
 use Rattle.std.proofs.lemmas.Bool.{both_ways}
 use Rattle.pl_event.specs.declared.events.Event.{Event}
-use Rattle.pl_context.specs.declared.standing.Standing.TheVariants as stands
+use Rattle.pl_context.specs.declared.standing.Standing.TheVariants as standings
 use Rattle.pl_context.specs.Standings.{is_over}
 use Rattle.pl_head.specs.Marks.{Change}
 use Rattle.pl_head.specs.Transports.{TransportState}
-use Rattle.pl_head.specs.HeadStand.{HeadView, HeadStandsAfter, lane_over}
+use Rattle.pl_head.specs.HeadStand.{HeadView, HeadStandsAfter, gone_of, lane_over}
 use Rattle.pl_part.specs.HeadHolds.{HeadTook}
 
 module _ {T : Type 0} (state : T → TransportState) (events : List Event) where
-  module _ (h h' : HeadView T) (t : HeadTook state events h) (sizes : List Change) (after : HeadStandsAfter state h' t.ys t.zs sizes) (standing : h'.standing ≡ h.standing) where
+  module _ (h h' : HeadView T) (t : HeadTook state events h) (sizes : List Change) (after : HeadStandsAfter state h' t.ys t.zs sizes) (standing : h'.standing ≡ h.standing)
+      (kept : gone_of h' ≡ gone_of h) where
     pub took-again : t.count ≤ h'.taken → (lane_over h' ≡ false → h'.taken ≡ t.count) → HeadTook state events h'
     took-again most running = record {
+      gone = t.gone;
+      bytes = ap (λ (x : ℕ × Bool). x.0) kept ∙ t.bytes;
+      flushed = t.flushed;
+      never = λ none. t.never (ap (λ (x : ℕ × Bool). x.1) (sym kept) ∙ none);
       ys = t.ys;
       zs = t.zs;
       sizes = sizes;
@@ -31,8 +36,12 @@ module _ {T : Type 0} (state : T → TransportState) (events : List Event) where
     took-same taken over = took-again (let most = t.most in omega (arith, most, taken)) (λ o. taken ∙ t.running (sym over ∙ o))
 
   -- It has taken none yet.
-  pub took-none : (h : HeadView T) → HeadStandsAfter state h [] [] [] → h.taken ≡ 0 → h.standing ≡ stands.Open → HeadTook state events h
-  took-none h after none live = record {
+  pub took-none : (h : HeadView T) → HeadStandsAfter state h [] [] [] → h.taken ≡ 0 → h.standing ≡ standings.Open → h.gone ≡ 0 → HeadTook state events h
+  took-none h after none live gone = record {
+    gone = [];
+    bytes = gone;
+    flushed = refl;
+    never = λ o. refl;
     ys = [];
     zs = [];
     sizes = [];

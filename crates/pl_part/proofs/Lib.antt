@@ -17,7 +17,8 @@ mod HeadMoves
 pub mod NewHeads
 pub mod PartCounts
 pub mod PartSteps
-mod HeadReports
+pub mod HeadReports
+mod Forgotten
 mod TakenSlots
 pub mod ShareLemmas
 pub mod ToldLemmas

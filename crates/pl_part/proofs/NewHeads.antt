@@ -5,14 +5,14 @@ use Rattle.pl_event.specs.declared.envelopes.Lane.{Lane}
 use Rattle.pl_event.specs.Hops.{same_lane, data_lane, flags_lane}
 use Rattle.pl_event.specs.Inputs.{recorded_input}
 use Rattle.pl_event.specs.Worlds.{World, content_of}
-use Rattle.pl_context.specs.declared.standing.Standing.TheVariants as stands
+use Rattle.pl_context.specs.declared.standing.Standing.TheVariants as standings
 use Rattle.pl_context.specs.declared.ports.Port.{Port}
 use Rattle.pl_context.specs.Standings.{cause_of}
 use Rattle.pl_flow.specs.Flows.{point, nowhere}
 use Rattle.pl_head.specs.declared.inputs.ReadPlan.{ReadPlan}
 use Rattle.pl_head.specs.ReadSteps.{plan_steps}
 use Rattle.pl_head.specs.Transports.{TransportState}
-use Rattle.pl_head.specs.HeadStand.{HeadView, HeadStandsAfter, ReadsStand, HasFewFlags}
+use Rattle.pl_head.specs.HeadStand.{HeadView, HeadStandsAfter, ReadsStand, HasFewFlags, gone_of}
 use Rattle.pl_part.specs.ContextHolds.{port_point}
 use Rattle.pl_part.specs.TailHolds.{MayFailFor}
 use Rattle.pl_part.specs.HeadHolds.{HeadHolds, IsHeadPlanned, head_writes, head_came, head_taken}
@@ -24,12 +24,13 @@ pub record IsFresh {T : Type 0} (state : T → TransportState) (plan : ReadPlan)
   pub after : HeadStandsAfter state h [] [] []
   pub reads : ReadsStand plan 0 false h
   pub entrance : h.input.port.lane ≡ data_lane channel 0
-  pub place : (h.channel ≡ channel) × (h.hop ≡ hop)
+  pub at_hop : (h.channel ≡ channel) × (h.hop ≡ hop)
   pub flags : h.buffer.flags ≡ record { lane = flags_lane channel 0; made = 0; is_open = true }
   pub taken : h.taken ≡ 0
-  pub standing : h.standing ≡ stands.Open
+  pub standing : h.standing ≡ standings.Open
   pub failure : h.failure ≡ None
   pub few : HasFewFlags h
+  pub gone : gone_of h ≡ (0, false)
 
 module _ {T : Type 0} (state : T → TransportState) (plan : ReadPlan) (channel hop : ℕ) (h : HeadView T) (new : IsFresh state plan channel hop h) where
   pub new-holds : (world : World) → IsHeadPlanned world plan channel hop → length (recorded_input plan.bursts) + 1 < MAX_ITEMS → HeadHolds state world h
@@ -37,17 +38,17 @@ module _ {T : Type 0} (state : T → TransportState) (plan : ReadPlan) (channel 
     plan = plan;
     events = p.events;
     holds = record {
-      own = (λ i. content_of world (data_lane (new.place.0 i) (new.place.1 i))) ∙ p.own;
+      own = (λ i. content_of world (data_lane (new.at_hop.0 i) (new.at_hop.1 i))) ∙ p.own;
       few = p.few;
-      took = took-none state p.events h new.after new.taken new.standing;
+      took = took-none state p.events h new.after new.taken new.standing (ap (λ (x : ℕ × Bool). x.0) new.gone);
       most = omega (arith, new.taken);
       may = subst (λ s. MayFailFor world (cause_of s)) (sym new.standing) tt;
       may_itself = subst (MayFailFor world) (sym new.failure) tt;
-      input = (λ i. content_of world (data_lane (new.place.0 i) 0)) ∙ p.input;
+      input = (λ i. content_of world (data_lane (new.at_hop.0 i) 0)) ∙ p.input;
       few_input = few;
       reads = (0, false, new.reads);
-      entrance = new.entrance ∙ ap (λ n. data_lane n 0) (sym new.place.0);
-      flags = ap (λ (p : Port). p.lane) new.flags ∙ ap (λ n. flags_lane n 0) (sym new.place.0);
+      entrance = new.entrance ∙ ap (λ n. data_lane n 0) (sym new.at_hop.0);
+      flags = ap (λ (p : Port). p.lane) new.flags ∙ ap (λ n. flags_lane n 0) (sym new.at_hop.0);
       few_flags = new.few;
     };
   }

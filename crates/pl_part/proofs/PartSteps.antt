@@ -21,7 +21,7 @@ use Rattle.pl_flow.specs.Flows.{Point, nowhere, IsGood}
 use Rattle.pl_flow.specs.Makes.{Makes}
 use Rattle.pl_flow.proofs.MakeLemmas.{makes-among, makes-none}
 use Rattle.pl_head.specs.Transports.{TransportState}
-use Rattle.pl_head.specs.HeadStand.{HeadView, EntersHead}
+use Rattle.pl_head.specs.HeadStand.{HeadView, EntersHead, gone_of}
 use Rattle.pl_part.specs.ContextHolds.{port_point, context_writes}
 use Rattle.pl_part.specs.Paths.{PathPartView, PathHolds, PathTakes, SamePath, context_at, writer_hop, path_taken, path_lanes, path_writes, path_writes_at, path_came, enters_path}
 use Rattle.pl_part.specs.PathCalls.{IsNextOnPath}
@@ -91,12 +91,12 @@ module _ {S T : Type 0} (meaning : S → Meaning) (stands_after : S → List Eve
 
   -- ---- the head moves
 
-  module _ (h : HeadView T) (at : p.head ≡ Some h) (h' : HeadView T) (place : (h'.channel ≡ h.channel) × (h'.hop ≡ h.hop)) where
+  module _ (h : HeadView T) (at : p.head ≡ Some h) (h' : HeadView T) (same_node : (h'.channel ≡ h.channel) × (h'.hop ≡ h.hop) × (gone_of h' ≡ gone_of h)) where
     abbrev pub with_head : ChannelPartView S T
     with_head = record p { head = Some h' }
 
     same-head-writes : (l : Lane) → head_writes h' l ≡ head_writes h l
-    same-head-writes l = (λ i. same_lane l (data_lane (place.0 i) 0) || same_lane l (flags_lane (place.0 i) 0))
+    same-head-writes l = (λ i. same_lane l (data_lane (same_node.0 i) 0) || same_lane l (flags_lane (same_node.0 i) 0))
 
     wrote : (l : Lane) → option_map_or (λ (x : HeadView T). head_writes x l) p.head false ≡ head_writes h l
     wrote l = ap (λ (o : Option (HeadView T)). option_map_or (λ (x : HeadView T). head_writes x l) o false) at
@@ -137,8 +137,9 @@ module _ {S T : Type 0} (meaning : S → Meaning) (stands_after : S → List Eve
 
     head-same : SamePart p with_head
     head-same = record {
-      path = record { channel = refl; executors = refl; contexts = refl; tail = refl; tail_hop = refl; turn = refl };
+      path = record { channel = refl; executors = refl; contexts = refl; tail = refl; tail_hop = refl; turn = refl; handed = refl };
       head = sym (ap (λ (o : Option (HeadView T)). is_some o) at);
+      gone = same_node.2 ∙ sym (ap (λ (o : Option (HeadView T)). option_map_or (λ (x : HeadView T). gone_of x) o (0, false)) at);
     }
 
     head-holds : (world : World) → PartHolds world meaning stands_after state p → HeadHolds state world h' → PartHolds world meaning stands_after state with_head
@@ -146,7 +147,7 @@ module _ {S T : Type 0} (meaning : S → Meaning) (stands_after : S → List Eve
       path = holds.path;
       head = λ x found.
           let own = holds.head h at in
-          subst (λ (y : HeadView T). HeadHolds state world y × (y.channel ≡ p.path.channel) × (y.hop ≡ head_hop p)) (same_Some h' x found) (held, place.0 ∙ own.1, place.1 ∙ own.2);
+          subst (λ (y : HeadView T). HeadHolds state world y × (y.channel ≡ p.path.channel) × (y.hop ≡ head_hop p)) (same_Some h' x found) (held, same_node.0 ∙ own.1, same_node.1 ∙ own.2);
       hops = holds.hops;
     }
 
@@ -184,7 +185,7 @@ module _ {S T : Type 0} (meaning : S → Meaning) (stands_after : S → List Eve
       head-given b a t = record {
         taken = λ l.
             ap (λ (n : ℕ). if l.hop == head_hop p then n else path_taken p.path l)
-            ((λ i. cond (same_lane l (data_lane (place.0 i) (place.1 i))) (t.taken i) 0) ∙ sym (ap (λ (o : Option (HeadView T)). option_map_or (λ (x : HeadView T). head_taken x l) o 0) at));
+            ((λ i. cond (same_lane l (data_lane (same_node.0 i) (same_node.1 i))) (t.taken i) 0) ∙ sym (ap (λ (o : Option (HeadView T)). option_map_or (λ (x : HeadView T). head_taken x l) o 0) at));
         puts = let own = (some.1.head h at).0 in head-puts b a t.placed (t.holds some.0 own) (t.made some.0 own);
         holds = λ world holds. head-holds world holds (t.holds world (holds.head h at).0);
         made = λ world holds. head-makes world b a (t.made world (holds.head h at).0);
@@ -209,7 +210,7 @@ module _ {S T : Type 0} (meaning : S → Meaning) (stands_after : S → List Eve
         head-counts enters number count l = ⊎_elim
             (λ (on : (l.hop == head_hop p) ≡ true).
             cond-true (l.hop == head_hop p) (head_taken h' l) (path_taken p.path l) on
-            ∙ (λ i. cond (same_lane l (data_lane (place.0 i) (place.1 i))) (count i) 0)
+            ∙ (λ i. cond (same_lane l (data_lane (same_node.0 i) (same_node.1 i))) (count i) 0)
             ∙ ap (λ (m : Lane). cond (same_lane l m) (h.taken + 1) 0) (sym enters)
             ∙ ⊎_elim
             (λ (t : same_lane l e.lane ≡ true).
@@ -253,7 +254,7 @@ module _ {S T : Type 0} (meaning : S → Meaning) (stands_after : S → List Eve
   -- the lanes of a head need one place
   pub head-places : (some : (world : World) × PartHolds world meaning stands_after state p) (h : HeadView T) → p.head ≡ Some h → (b : OutputsView) → HasPlaces b.stopped (part_lanes p) → HasPlaces b.stopped (data_lane h.channel 0 ∷ [])
   head-places some h at b places =
-      places-for b.stopped (part_lanes p) (data_lane h.channel 0 ∷ []) places (λ l any. head-among h at h (refl, refl) some l (twice (same_hop l (data_lane h.channel 0)) any))
+      places-for b.stopped (part_lanes p) (data_lane h.channel 0 ∷ []) places (λ l any. head-among h at h (refl, refl, refl) some l (twice (same_hop l (data_lane h.channel 0)) any))
 
   -- ---- nothing moves
 
@@ -261,7 +262,7 @@ module _ {S T : Type 0} (meaning : S → Meaning) (stands_after : S → List Eve
   none-given some hop b = record {
     taken = λ l. refl;
     puts = record {
-      same = record { path = record { channel = refl; executors = refl; contexts = refl; tail = refl; tail_hop = refl; turn = refl }; head = refl };
+      same = record { path = record { channel = refl; executors = refl; contexts = refl; tail = refl; tail_hop = refl; turn = refl; handed = refl }; head = refl; gone = refl };
       writes = λ l. refl;
       others = λ l f. refl;
       placed = λ lanes among places. places;
@@ -284,7 +285,7 @@ module _ {S T : Type 0} (meaning : S → Meaning) (stands_after : S → List Eve
         sym (length-map v'.contexts (λ (slot : Option (ContextView S)). is_some slot)) ∙ ap length same.contexts ∙ length-map p.path.contexts (λ (slot : Option (ContextView S)). is_some slot)
 
     path-same : SamePart p with_path
-    path-same = record { path = same; head = refl }
+    path-same = record { path = same; head = refl; gone = refl }
 
     path-holds : (world : World) → PartHolds world meaning stands_after state p → PathHolds world meaning stands_after v' → PartHolds world meaning stands_after state with_path
     path-holds world holds held = record {
@@ -424,9 +425,9 @@ module _ {S T : Type 0} (meaning : S → Meaning) (stands_after : S → List Eve
     next-at-head at_head h at =
         let next = next-of in
         let there = subst (λ (y : ChannelPartView S T). (e.lane.hop == head_hop y) ≡ true) (sym same) at_head in
-        let enters = head-enters meaning stands_after state v h at h (refl, refl) (next.0, next.1.holds) e there next.1.entered in (
+        let enters = head-enters meaning stands_after state v h at h (refl, refl, refl) (next.0, next.1.holds) e there next.1.entered in (
           next.0,
-          record { next = next.1; there = there; enters = enters; number = head-number meaning stands_after state v h at h (refl, refl) (next.0, next.1.holds) e there enters next.1.number },
+          record { next = next.1; there = there; enters = enters; number = head-number meaning stands_after state v h at h (refl, refl, refl) (next.0, next.1.holds) e there enters next.1.number },
         )
 
   -- ---- what its head is to do
@@ -444,7 +445,7 @@ module _ {S T : Type 0} (meaning : S → Meaning) (stands_after : S → List Eve
       given-there h' after gives =
           let some = holds-of holds in
           let t = gives (some.0, (some.1.head h at).0) in
-          subst (λ (y : ChannelPartView S T). Given meaning stands_after state y (head_hop y) before (record v { head = Some h' }) after) same (head-given meaning stands_after state v h at h' t.place some before after t)
+          subst (λ (y : ChannelPartView S T). Given meaning stands_after state y (head_hop y) before (record v { head = Some h' }) after) same (head-given meaning stands_after state v h at h' t.same_node some before after t)
 
 module _ {S T : Type 0} (state : T → TransportState) (p v : ChannelPartView S T) (same : v ≡ p) (before : OutputsView) (h : HeadView T) (at : v.head ≡ Some h) (h' : HeadView T) (after : OutputsView) where
   abbrev moved_head : ChannelPartView S T

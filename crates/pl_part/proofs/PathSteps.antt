@@ -35,7 +35,7 @@ use Rattle.pl_part.specs.Taking.{ContextTakes, ContextRefused, TailTakes}
 use Rattle.pl_part.specs.Paths.{PathPartView, PathHolds, IsPathPart, IsAt, context_at, writer_hop, enters_path, path_taken, path_lanes, path_writes, path_writes_at, path_came}
 use Rattle.pl_part.specs.PathCalls.{IsNextOnPath, PathPuts, PathTaken, PathRefused}
 use Rattle.pl_part.specs.Counts.{context_done, tail_done, slot_done, path_done}
-use Rattle.pl_part.proofs.TakenCounts.{place_taken, taken-kind, taken-next}
+use Rattle.pl_part.proofs.TakenCounts.{node_taken, taken-kind, taken-next}
 
 -- an item is of one lane
 one-item : (k : Kind) → one_of Data k + one_of Flags k ≡ 1
@@ -200,7 +200,7 @@ module _ {S : Type 0} (meaning : S → Meaning) (stands_after : S → List Event
       (λ t. let p = and_parts _ _ t in writer-down d is.turned p.0 l.hop (ap (λ (m : Lane). m.hop) (same_lane-equal l c.down.lane p.1 ∙ own-lanes.1)))
       (λ t. writer-next l.hop (ap (λ (m : Lane). m.hop) (same_lane-equal l c.flags.lane (and_parts _ _ t).1 ∙ own-lanes.2)))
 
-  module _ (c' : ContextView S) (meant : meaning c'.stage ≡ meaning c.stage) (place : (c'.channel ≡ c.channel) × (c'.hop ≡ c.hop)) (lanes : context_lanes c' ≡ context_lanes c) where
+  module _ (c' : ContextView S) (meant : meaning c'.stage ≡ meaning c.stage) (same_node : (c'.channel ≡ c.channel) × (c'.hop ≡ c.hop)) (lanes : context_lanes c' ≡ context_lanes c) where
     abbrev pub moved_path : PathPartView S
     moved_path = record v { contexts = set v.contexts hop (Some c') }
 
@@ -298,8 +298,8 @@ module _ {S : Type 0} (meaning : S → Meaning) (stands_after : S → List Event
 
     still-at : IsAt meaning v.channel hop v.tail_hop v.turn c'
     still-at = record {
-      channel_is = place.0 ∙ is.channel_is;
-      hop_is = place.1 ∙ is.hop_is;
+      channel_is = same_node.0 ∙ is.channel_is;
+      hop_is = same_node.1 ∙ is.hop_is;
       fits = subst (λ (m : Meaning). IsHop m.direction hop v.tail_hop) (sym meant) is.fits;
       turned = λ t. is.turned (ap (λ (m : Meaning). is_turn m.direction) (sym meant) ∙ t);
       lanes = lanes ∙ is.lanes ∙ ap (λ (m : Meaning). data_lane v.channel (hop + 1) ∷ data_lane v.channel (down_hop m.direction hop v.tail_hop) ∷ flags_lane v.channel (hop + 1) ∷ []) (sym meant);
@@ -328,7 +328,7 @@ module _ {S : Type 0} (meaning : S → Meaning) (stands_after : S → List Event
 
     context-puts : (before after : OutputsView) → ((hops : List Lane) → AreAmong (context_lanes c) hops → HasPlaces before.stopped hops → HasPlaces after.stopped hops) → PathPuts meaning v before moved_path after
     context-puts before after placed = record {
-      same = record { channel = refl; executors = refl; contexts = same-filled v.contexts hop c c' at; tail = refl; tail_hop = refl; turn = refl };
+      same = record { channel = refl; executors = refl; contexts = same-filled v.contexts hop c c' at; tail = refl; tail_hop = refl; turn = refl; handed = refl };
       writes = λ l. writes-same l;
       placed = λ hops among p. placed hops (λ l a. among l (context-among l a)) p;
     }
@@ -366,7 +366,7 @@ module _ {S : Type 0} (meaning : S → Meaning) (stands_after : S → List Event
         tail_kept = λ off. refl;
       };
       taken = taken-by (λ l n. cond (same_lane l e.lane) (e.number + 1) n)
-          (λ l on_same. (λ i. place_taken (place.0 i) (place.1 i) (λ k. kind_taken c' k) l)
+          (λ l on_same. (λ i. node_taken (same_node.0 i) (same_node.1 i) (λ k. kind_taken c' k) l)
           ∙ taken-next c.channel c.hop e.lane enters.channel enters.hop (λ k. kind_taken c k) (λ k. kind_taken c' k) e.number number counts l)
           (λ l n off. cond-false (same_lane l e.lane) (e.number + 1) n (other-hop l e.lane (λ same. off (same ∙ on_hop))));
       puts = context-puts before after placed;
@@ -401,7 +401,7 @@ module _ {S : Type 0} (meaning : S → Meaning) (stands_after : S → List Event
       };
       over = λ k x found. subst (λ (y : ContextView S). is_over y.standing ≡ true)
           (same_Some c' x (sym (ap (λ (h : ℕ). context_at moved_path h) (same-writer lane.hop ∙ sym writer) ∙ now-here) ∙ found)) (over k);
-      taken = taken-by (λ l n. n) (λ l on_same. (λ i. place_taken (place.0 i) (place.1 i) (λ k. counts k i) l)) (λ l n off. refl);
+      taken = taken-by (λ l n. n) (λ l on_same. (λ i. node_taken (same_node.0 i) (same_node.1 i) (λ k. counts k i) l)) (λ l n off. refl);
       puts = context-puts before after placed;
       holds = λ world refuses holds. path-holds world holds (held world refuses (holds.contexts hop c at).0);
       made = λ world refuses holds. path-makes world before after (made world refuses (holds.contexts hop c at).0);
@@ -428,7 +428,7 @@ module _ {S : Type 0} (meaning : S → Meaning) (stands_after : S → List Event
     over = λ k x found. absurd (no (sym none ∙ found));
     taken = λ l. refl;
     puts = record {
-      same = record { channel = refl; executors = refl; contexts = refl; tail = refl; tail_hop = refl; turn = refl };
+      same = record { channel = refl; executors = refl; contexts = refl; tail = refl; tail_hop = refl; turn = refl; handed = refl };
       writes = λ l. refl;
       placed = λ hops among p. p;
     };
@@ -446,13 +446,13 @@ module _ {S : Type 0} (meaning : S → Meaning) (stands_after : S → List Event
   beyond-refused lane before past = none-refused lane before (beyond v.contexts (writer_hop v lane.hop) past)
 
   module _ (some : (world : World) × PathHolds world meaning stands_after v) (t : TailView) (at : v.tail ≡ Some t) (e : Envelope) (there : (e.lane.hop == v.tail_hop) ≡ true) where
-    place : (t.channel ≡ v.channel) × (t.hop ≡ v.tail_hop)
-    place = let held = some.1.tail t at in (held.1, held.2)
+    same_node : (t.channel ≡ v.channel) × (t.hop ≡ v.tail_hop)
+    same_node = let held = some.1.tail t at in (held.1, held.2)
 
     pub tail-enters : enters_path v e.lane ≡ true → EntersTail t e.lane
     tail-enters entered = record {
-      channel = eqb-true e.lane.channel v.channel (and_parts (e.lane.channel == v.channel) _ entered).0 ∙ sym place.0;
-      hop = eqb-true e.lane.hop v.tail_hop there ∙ sym place.1;
+      channel = eqb-true e.lane.channel v.channel (and_parts (e.lane.channel == v.channel) _ entered).0 ∙ sym same_node.0;
+      hop = eqb-true e.lane.hop v.tail_hop there ∙ sym same_node.1;
     }
 
     taken-there : (p : PathPartView S) (x : TailView) (l : Lane) → (l.hop == p.tail_hop) ≡ true → p.tail ≡ Some x → path_taken p l ≡ tail_taken_of x l
@@ -474,7 +474,7 @@ module _ {S : Type 0} (meaning : S → Meaning) (stands_after : S → List Event
       };
       taken = λ l. ⊎_elim
           (λ (on : (l.hop == v.tail_hop) ≡ true).
-          taken-there (record v { tail = Some t' }) t' l on refl ∙ (λ i. place_taken (still.0 i) (still.1 i) (λ k. tail_kind_taken t' k) l)
+          taken-there (record v { tail = Some t' }) t' l on refl ∙ (λ i. node_taken (still.0 i) (still.1 i) (λ k. tail_kind_taken t' k) l)
           ∙ taken-next t.channel t.hop e.lane enters.channel enters.hop (λ k. tail_kind_taken t k) (λ k. tail_kind_taken t' k) e.number number counts l
           ∙ ap (λ (n : ℕ). cond (same_lane l e.lane) (e.number + 1) n) (sym (taken-there v t l on at)))
           (λ (off : (l.hop == v.tail_hop) ≡ false).
@@ -483,14 +483,22 @@ module _ {S : Type 0} (meaning : S → Meaning) (stands_after : S → List Event
           (other-hop l e.lane (λ same. both_ways (l.hop == v.tail_hop) off (ap (λ (h : ℕ). h == v.tail_hop) same ∙ there)))))
           (cases_Bool (l.hop == v.tail_hop));
       puts = record {
-        same = record { channel = refl; executors = refl; contexts = refl; tail = sym (ap (λ (o : Option TailView). is_some o) at); tail_hop = refl; turn = refl };
+        same = record {
+          channel = refl;
+          executors = refl;
+          contexts = refl;
+          tail = sym (ap (λ (o : Option TailView). is_some o) at);
+          tail_hop = refl;
+          turn = refl;
+          handed = takes.handed ∙ sym (ap (λ (o : Option TailView). option_map_or (λ (y : TailView). y.handed) o 0) at);
+        };
         writes = λ l. refl;
         placed = λ hops among p. p;
       };
       holds = λ world holds good. record {
         contexts = holds.contexts;
         tail = λ x found. subst (λ (y : TailView). TailHolds world y × (y.channel ≡ v.channel) × (y.hop ≡ v.tail_hop)) (same_Some t' x found)
-            (held world (holds.tail t at).0 good, still.0 ∙ place.0, still.1 ∙ place.1);
+            (held world (holds.tail t at).0 good, still.0 ∙ same_node.0, still.1 ∙ same_node.1);
         few = holds.few;
       };
       made = λ world holds good. makes-none world (path_writes meaning v) (path_came meaning v) before before refl refl;

@@ -5,7 +5,7 @@ use Rattle.std.proofs.lemmas.Bool.{both_ways}
 use Rattle.std.proofs.lemmas.Option.{none-some, same_Some}
 use Rattle.pl_event.specs.declared.outcomes.Cause.{Cause}
 use Rattle.pl_context.specs.declared.standing.Standing.{Standing}
-use Rattle.pl_context.specs.declared.standing.Standing.TheVariants as stands
+use Rattle.pl_context.specs.declared.standing.Standing.TheVariants as standings
 use Rattle.pl_context.specs.Standings.{has_failed, cause_of, together}
 use Rattle.pl_context.specs.ContextViews.{ContextView}
 use Rattle.pl_context.specs.TailViews.{TailView}
@@ -14,19 +14,19 @@ use Rattle.pl_part.specs.Paths.{context_at, path_standing, slots_stand}
 use Rattle.pl_part.specs.Parts.{ChannelPartView, head_standing, part_standing}
 
 -- all that holds of two nodes together: open where both are, and not failed where neither is
-both-open : (a b : Standing) → together a b ≡ stands.Open → (a ≡ stands.Open) × (b ≡ stands.Open)
-both-open stands.Open b e = (refl, e)
-both-open stands.Ended stands.Open e = cc
-both-open stands.Ended stands.Ended e = cc
-both-open stands.Ended (stands.Failed cause) e = cc
-both-open (stands.Failed cause) b e = cc
+both-open : (a b : Standing) → together a b ≡ standings.Open → (a ≡ standings.Open) × (b ≡ standings.Open)
+both-open standings.Open b e = (refl, e)
+both-open standings.Ended standings.Open e = cc
+both-open standings.Ended standings.Ended e = cc
+both-open standings.Ended (standings.Failed cause) e = cc
+both-open (standings.Failed cause) b e = cc
 
 both-sound : (a b : Standing) → has_failed (together a b) ≡ false → (has_failed a ≡ false) × (has_failed b ≡ false)
-both-sound stands.Open b e = (refl, e)
-both-sound stands.Ended stands.Open e = (refl, refl)
-both-sound stands.Ended stands.Ended e = (refl, refl)
-both-sound stands.Ended (stands.Failed cause) e = absurd (both_ways true e refl)
-both-sound (stands.Failed cause) b e = absurd (both_ways true e refl)
+both-sound standings.Open b e = (refl, e)
+both-sound standings.Ended standings.Open e = (refl, refl)
+both-sound standings.Ended standings.Ended e = (refl, refl)
+both-sound standings.Ended (standings.Failed cause) e = absurd (both_ways true e refl)
+both-sound (standings.Failed cause) b e = absurd (both_ways true e refl)
 
 -- what holds of two nodes where it holds of both together holds of each of several
 module _ {S : Type 0} (Holds : Standing → Type 0) (both : (a b : Standing) → Holds (together a b) → Holds a × Holds b) where
@@ -47,27 +47,27 @@ module _ {S : Type 0} (Holds : Standing → Type 0) (both : (a b : Standing) →
       behind (suc hop) c there own rest = rest hop c there
 
 module _ {S T : Type 0} (Holds : Standing → Type 0) (both : (a b : Standing) → Holds (together a b) → Holds a × Holds b) (p : ChannelPartView S T) (h : Holds (part_standing p)) where
-  abbrev two : Holds (option_map_or (λ (x : HeadView T). head_standing x) p.head stands.Open) × Holds (path_standing p.path)
-  two = both (option_map_or (λ (x : HeadView T). head_standing x) p.head stands.Open) (path_standing p.path) h
+  abbrev two : Holds (option_map_or (λ (x : HeadView T). head_standing x) p.head standings.Open) × Holds (path_standing p.path)
+  two = both (option_map_or (λ (x : HeadView T). head_standing x) p.head standings.Open) (path_standing p.path) h
 
-  abbrev others : Holds (option_map_or (λ (t : TailView). t.standing) p.path.tail stands.Open) × ((hop : ℕ) (c : ContextView S) → context_at p.path hop ≡ Some c → Holds c.standing)
-  others = slots-each Holds both (option_map_or (λ (t : TailView). t.standing) p.path.tail stands.Open) p.path.contexts two.1
+  abbrev others : Holds (option_map_or (λ (t : TailView). t.standing) p.path.tail standings.Open) × ((hop : ℕ) (c : ContextView S) → context_at p.path hop ≡ Some c → Holds c.standing)
+  others = slots-each Holds both (option_map_or (λ (t : TailView). t.standing) p.path.tail standings.Open) p.path.contexts two.1
 
   pub each-context : (hop : ℕ) (c : ContextView S) → context_at p.path hop ≡ Some c → Holds c.standing
   each-context = others.1
 
   pub the-tail : (t : TailView) → p.path.tail ≡ Some t → Holds t.standing
-  the-tail t there = subst (λ (o : Option TailView). Holds (option_map_or (λ (x : TailView). x.standing) o stands.Open)) there others.0
+  the-tail t there = subst (λ (o : Option TailView). Holds (option_map_or (λ (x : TailView). x.standing) o standings.Open)) there others.0
 
   pub the-head : (x : HeadView T) → p.head ≡ Some x → Holds (head_standing x)
-  the-head x there = subst (λ (o : Option (HeadView T)). Holds (option_map_or (λ (y : HeadView T). head_standing y) o stands.Open)) there two.0
+  the-head x there = subst (λ (o : Option (HeadView T)). Holds (option_map_or (λ (y : HeadView T). head_standing y) o standings.Open)) there two.0
 
 -- a head that has not failed by itself, and whose lane has not, stands as its lane
-as-lane : (failure : Option Cause) (standing : Standing) → has_failed (option_map_or (λ (cause : Cause). stands.Failed cause) (first_cause failure (cause_of standing)) standing) ≡ false
-    → (failure ≡ None) × (option_map_or (λ (cause : Cause). stands.Failed cause) (first_cause failure (cause_of standing)) standing ≡ standing)
-as-lane None stands.Open e = (refl, refl)
-as-lane None stands.Ended e = (refl, refl)
-as-lane None (stands.Failed cause) e = absurd (both_ways true e refl)
+as-lane : (failure : Option Cause) (standing : Standing) → has_failed (option_map_or (λ (cause : Cause). standings.Failed cause) (first_cause failure (cause_of standing)) standing) ≡ false
+    → (failure ≡ None) × (option_map_or (λ (cause : Cause). standings.Failed cause) (first_cause failure (cause_of standing)) standing ≡ standing)
+as-lane None standings.Open e = (refl, refl)
+as-lane None standings.Ended e = (refl, refl)
+as-lane None (standings.Failed cause) e = absurd (both_ways true e refl)
 as-lane (Some cause) standing e = absurd (both_ways true e refl)
 
 pub head-sound : {T : Type 0} (h : HeadView T) → has_failed (head_standing h) ≡ false → (h.failure ≡ None) × (head_standing h ≡ h.standing)
@@ -75,15 +75,15 @@ head-sound h e = as-lane h.failure h.standing e
 
 module _ {S T : Type 0} (p : ChannelPartView S T) where
   -- a part that is open is open at each node
-  pub open-context : part_standing p ≡ stands.Open → (hop : ℕ) (c : ContextView S) → context_at p.path hop ≡ Some c → c.standing ≡ stands.Open
-  open-context = each-context (λ s. s ≡ stands.Open) both-open p
+  pub open-context : part_standing p ≡ standings.Open → (hop : ℕ) (c : ContextView S) → context_at p.path hop ≡ Some c → c.standing ≡ standings.Open
+  open-context = each-context (λ s. s ≡ standings.Open) both-open p
 
-  pub open-tail : part_standing p ≡ stands.Open → (t : TailView) → p.path.tail ≡ Some t → t.standing ≡ stands.Open
-  open-tail = the-tail (λ s. s ≡ stands.Open) both-open p
+  pub open-tail : part_standing p ≡ standings.Open → (t : TailView) → p.path.tail ≡ Some t → t.standing ≡ standings.Open
+  open-tail = the-tail (λ s. s ≡ standings.Open) both-open p
 
-  pub open-head : part_standing p ≡ stands.Open → (h : HeadView T) → p.head ≡ Some h → (h.failure ≡ None) × (h.standing ≡ stands.Open)
+  pub open-head : part_standing p ≡ standings.Open → (h : HeadView T) → p.head ≡ Some h → (h.failure ≡ None) × (h.standing ≡ standings.Open)
   open-head is h there =
-      let own = the-head (λ s. s ≡ stands.Open) both-open p is h there in
+      let own = the-head (λ s. s ≡ standings.Open) both-open p is h there in
       let sound = head-sound h (ap has_failed own) in (sound.0, sym sound.1 ∙ own)
 
   -- one of which no node has failed

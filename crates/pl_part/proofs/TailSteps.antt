@@ -1,5 +1,5 @@
 -- A tail takes the next item of one of its lanes: how it stands then.
-use Rattle.std.proofs.Common.{◌≡◌, ℕ, suc, ◌+◌, ◌<◌, ◌≤◌, ◌^◌, Bool, true, false, List, [], ◌∷◌, ◌++◌, length, take, Some, refl, ap, sym, ◌∙◌, subst, ⊎_elim, arith, length-append}
+use Rattle.std.proofs.Common.{◌≡◌, ℕ, suc, ◌+◌, ◌<◌, ◌≤◌, ◌^◌, Bool, true, false, List, [], ◌∷◌, ◌++◌, length, take, Some, refl, ap, sym, ◌∙◌, subst, ⊎_elim, arith, length-append, append_assoc}
 use Rattle.std.specs.Prelude.{◌%◌, ◌==◌}
 use Rattle.std.specs.List.{slice_get}
 use Rattle.std.proofs.lemmas.List.{take_all}
@@ -15,7 +15,7 @@ use Rattle.pl_event.specs.declared.envelopes.Item.TheVariants as item
 use Rattle.pl_event.specs.declared.envelopes.Envelope.{Envelope}
 use Rattle.pl_event.specs.Fitting.{Fits, FitsAsFlag}
 use Rattle.pl_context.specs.declared.standing.Standing.{Standing}
-use Rattle.pl_context.specs.declared.standing.Standing.TheVariants as stands
+use Rattle.pl_context.specs.declared.standing.Standing.TheVariants as standings
 use Rattle.pl_context.specs.declared.standing.Took.{Took}
 use Rattle.pl_context.specs.declared.standing.Took.TheVariants as took
 use Rattle.pl_context.specs.Standings.{is_over, has_failed}
@@ -48,13 +48,15 @@ module _ (world : World) (events : List Event) (t : TailView) (h : TailHoldsWith
   taken-few : (i : Item) → Fits events t.taken i → t.taken + 1 ≤ MAX_ITEMS
   taken-few i fits = let within = fits-within events t.taken i fits in let few = h.few in omega (arith, within, few)
 
-  recorded : t.standing ≡ stands.Open → (x : Event) → slice_get events t.taken ≡ Some x → (room : ℕ) → Held (record t { taken = t.taken + 1; events = t.events ++ x ∷ []; room = room })
+  recorded : t.standing ≡ standings.Open → (x : Event) → slice_get events t.taken ≡ Some x → (room : ℕ) → Held (record t { taken = t.taken + 1; events = t.events ++ x ∷ []; room = room })
   recorded live x fits room =
       let s = split-at events t.taken x fits in
       let within = slice_get_within events t.taken x fits in record {
         own = h.own;
         few = h.few;
-        taken = λ o. (omega (arith, within), ap (λ zs. zs ++ x ∷ []) (h.taken live).1 ∙ sym s.2 ∙ sym (next-take t.taken events));
+        gone = h.gone;
+        handed = h.handed;
+        taken = λ o. (omega (arith, within), sym (append_assoc h.gone t.events (x ∷ [])) ∙ ap (λ zs. zs ++ x ∷ []) (h.taken live).1 ∙ sym s.2 ∙ sym (next-take t.taken events));
         ended = λ o. absurd (both_ways (is_over t.standing) (ap is_over live) (ap is_over o));
         failed = λ o. absurd (both_ways (has_failed t.standing) (ap has_failed live) o);
         may = h.may;
@@ -65,10 +67,12 @@ module _ (world : World) (events : List Event) (t : TailView) (h : TailHoldsWith
         few_flags = h.few_flags;
       }
 
-  failing : t.standing ≡ stands.Open → (cause : Cause) → may_fail world cause ≡ true → (room : ℕ) → Held (record t { taken = t.taken + 1; standing = stands.Failed cause; room = room })
+  failing : t.standing ≡ standings.Open → (cause : Cause) → may_fail world cause ≡ true → (room : ℕ) → Held (record t { taken = t.taken + 1; standing = standings.Failed cause; room = room })
   failing live cause may room = record {
     own = h.own;
     few = h.few;
+    gone = h.gone;
+    handed = h.handed;
     taken = λ o. absurd (both_ways false refl (sym (ap is_over o)));
     ended = λ o. absurd (both_ways false refl (sym (ap has_failed o)));
     failed = λ o. (t.taken, (h.taken live).0, (h.taken live).1);
@@ -80,10 +84,12 @@ module _ (world : World) (events : List Event) (t : TailView) (h : TailHoldsWith
     few_flags = h.few_flags;
   }
 
-  ending : t.standing ≡ stands.Open → t.taken ≡ length events → Held (record t { taken = t.taken + 1; standing = stands.Ended })
+  ending : t.standing ≡ standings.Open → t.taken ≡ length events → Held (record t { taken = t.taken + 1; standing = standings.Ended })
   ending live last = record {
     own = h.own;
     few = h.few;
+    gone = h.gone;
+    handed = h.handed;
     taken = λ o. absurd (both_ways false refl (sym (ap is_over o)));
     ended = λ o. (h.taken live).1 ∙ take_all t.taken events (omega (arith, last));
     failed = λ o. absurd (both_ways false refl o);
@@ -97,10 +103,23 @@ module _ (world : World) (events : List Event) (t : TailView) (h : TailHoldsWith
 
   counted-over : is_over t.standing ≡ true → t.taken + 1 ≤ MAX_ITEMS → Held (counted Data t)
   counted-over over small =
-      let taken : t.standing ≡ stands.Open → (t.taken + 1 ≤ length events) × (t.events ≡ take (t.taken + 1) events) = λ o. absurd (both_ways (is_over t.standing) (ap is_over o) over) in
-      assumption (h, taken)
+      record {
+        own = h.own;
+        few = h.few;
+        gone = h.gone;
+        handed = h.handed;
+        taken = λ o. absurd (both_ways (is_over t.standing) (ap is_over o) over);
+        ended = h.ended;
+        failed = h.failed;
+        may = h.may;
+        flags = h.flags;
+        flags_most = h.flags_most;
+        flags_all = h.flags_all;
+        few_taken = small;
+        few_flags = h.few_flags;
+      }
 
-  taken-open : t.standing ≡ stands.Open → (i : Item) → Fits events t.taken i → MayCome world i → (answer : Took) (t' : TailView) → RecordsItem (counted Data t) i answer t' → Held t'
+  taken-open : t.standing ≡ standings.Open → (i : Item) → Fits events t.taken i → MayCome world i → (answer : Took) (t' : TailView) → RecordsItem (counted Data t) i answer t' → Held t'
   taken-open live (item.Event x) fits may took.Ran t' r = subst (λ (z : TailView). Held z) (sym r.0) (recorded live x fits t'.room)
   taken-open live (item.Event x) fits may (took.Failed cause) t' r = subst (λ (z : TailView). Held z) (sym r.2) (failing live Memory refl t'.room)
   taken-open live (item.Event x) fits may took.Ended t' r = absurd r
@@ -114,7 +133,21 @@ module _ (world : World) (events : List Event) (t : TailView) (h : TailHoldsWith
   -- a flag more was taken, and added or not
   flag-counted : t.flags_taken < 2 ^ 32 → (flags : List Bool) (stopped : Bool) (room : ℕ) → Alternate 0 flags → length flags ≤ t.flags_taken + 1
       → (has_failed t.standing ≡ false → stopped ≡ false → length flags ≡ t.flags_taken + 1) → Held (record (counted Flags t) { flags = flags; flags_stopped = stopped; flags_room = room })
-  flag-counted small flags stopped room alternate most all = let few_flags : t.flags_taken + 1 ≤ 2 ^ 32 = omega (arith, small) in assumption (h, few_flags)
+  flag-counted small flags stopped room alternate most all = record {
+    own = h.own;
+    few = h.few;
+    gone = h.gone;
+    handed = h.handed;
+    taken = h.taken;
+    ended = h.ended;
+    failed = h.failed;
+    may = h.may;
+    flags = alternate;
+    flags_most = most;
+    flags_all = all;
+    few_taken = h.few_taken;
+    few_flags = omega (arith, small);
+  }
 
   flag-lost : (has_failed t.standing ≡ false → t.flags_stopped ≡ false → ⊥) → t.flags_taken < 2 ^ 32 → Held (counted Flags t)
   flag-lost none small = flag-counted small t.flags t.flags_stopped t.flags_room h.flags (let most = h.flags_most in omega (arith, most)) (λ f s. absurd (none f s))
@@ -148,9 +181,9 @@ module _ (world : World) (events : List Event) (t : TailView) (h : TailHoldsWith
   dropped Data f items flags = counted-over (failed-over t.standing f) (items refl)
     where
       failed-over : (s : Standing) → has_failed s ≡ true → is_over s ≡ true
-      failed-over stands.Open e = e
-      failed-over stands.Ended e = refl
-      failed-over (stands.Failed cause) e = refl
+      failed-over standings.Open e = e
+      failed-over standings.Ended e = refl
+      failed-over (standings.Failed cause) e = refl
   dropped Flags f items flags = flag-lost (λ n s. both_ways (has_failed t.standing) n f) (flags refl)
 
   -- ---- any item of its lanes
@@ -166,8 +199,8 @@ module _ (world : World) (events : List Event) (t : TailView) (h : TailHoldsWith
     tail-limit = within-limit world e good t.channel t.hop enters.channel enters.hop events h.own t.taken h.few (here Data)
 
     pub tail-taken : (t' : TailView) (answer : Took)
-        → (e.lane.kind ≡ Data → t.standing ≡ stands.Open → RecordsItem (counted Data t) e.item answer t')
-        → (e.lane.kind ≡ Data → t.standing ≡ stands.Ended → (answer ≡ took.Ran) × (t' ≡ counted Data t))
+        → (e.lane.kind ≡ Data → t.standing ≡ standings.Open → RecordsItem (counted Data t) e.item answer t')
+        → (e.lane.kind ≡ Data → t.standing ≡ standings.Ended → (answer ≡ took.Ran) × (t' ≡ counted Data t))
         → (e.lane.kind ≡ Flags → has_failed t.standing ≡ false → (answer ≡ took.Ran) × RecordsFlagItem (counted Flags t) e.item t')
         → (has_failed t.standing ≡ true → (answer ≡ took.Dropped) × (t' ≡ counted e.lane.kind t))
         → Held t'
@@ -180,11 +213,11 @@ module _ (world : World) (events : List Event) (t : TailView) (h : TailHoldsWith
         next is = taken-few e.item (next-fits is)
 
         by : (k : Kind) → e.lane.kind ≡ k → (s : Standing) → t.standing ≡ s → Held t'
-        by Data is stands.Open live = taken-open live e.item (next-fits is) (data-may world e good is) answer t' (item is live)
-        by Data is stands.Ended over = subst (λ (z : TailView). Held z) (sym (ended is over).1) (counted-over (ap is_over over) (next is))
-        by k is (stands.Failed cause) over = subst (λ (z : TailView). Held z) (sym (drops (ap has_failed over)).1) (dropped e.lane.kind (ap has_failed over) next small)
-        by Flags is stands.Open live = flags-taken (small is) e.item (flag-fits world e good is t.flags_taken (here Flags is)) (ap has_failed live) t' (flag is (ap has_failed live)).1
-        by Flags is stands.Ended live = flags-taken (small is) e.item (flag-fits world e good is t.flags_taken (here Flags is)) (ap has_failed live) t' (flag is (ap has_failed live)).1
+        by Data is standings.Open live = taken-open live e.item (next-fits is) (data-may world e good is) answer t' (item is live)
+        by Data is standings.Ended over = subst (λ (z : TailView). Held z) (sym (ended is over).1) (counted-over (ap is_over over) (next is))
+        by k is (standings.Failed cause) over = subst (λ (z : TailView). Held z) (sym (drops (ap has_failed over)).1) (dropped e.lane.kind (ap has_failed over) next small)
+        by Flags is standings.Open live = flags-taken (small is) e.item (flag-fits world e good is t.flags_taken (here Flags is)) (ap has_failed live) t' (flag is (ap has_failed live)).1
+        by Flags is standings.Ended live = flags-taken (small is) e.item (flag-fits world e good is t.flags_taken (here Flags is)) (ap has_failed live) t' (flag is (ap has_failed live)).1
 
 -- ---- one that has taken nothing
 
@@ -192,6 +225,8 @@ pub new-holds : (world : World) (channel k : ℕ) (events : List Event) → cont
 new-holds world channel k events own few = record {
   own = own;
   few = few;
+  gone = [];
+  handed = refl;
   taken = λ o. (omega arith, refl);
   ended = λ o. absurd (both_ways false refl (sym (ap is_over (sym o))));
   failed = λ o. absurd (both_ways false refl o);

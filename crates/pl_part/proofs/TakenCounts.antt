@@ -10,8 +10,8 @@ use Rattle.pl_event.proofs.SameLanes.{same_lane-equal, same_lane-self}
 use Rattle.pl_context.specs.ContextViews.{one_of}
 
 -- so many items of a lane were taken at a hop that has taken so many of each kind
-abbrev pub place_taken : ℕ → ℕ → (Kind → ℕ) → Lane → ℕ
-place_taken channel hop count l = cond ((l.channel == channel) && (l.hop == hop)) (count l.kind) 0
+abbrev pub node_taken : ℕ → ℕ → (Kind → ℕ) → Lane → ℕ
+node_taken channel hop count l = cond ((l.channel == channel) && (l.hop == hop)) (count l.kind) 0
 
 one-more : (k : Kind) → one_of k k ≡ 1
 one-more Data = refl
@@ -33,15 +33,15 @@ module _ (channel hop : ℕ) (e : Lane) (on_channel : e.channel ≡ channel) (at
   here : ((e.channel == channel) && (e.hop == hop)) ≡ true
   here = and_from (e.channel == channel) (e.hop == hop) (eq-eqb e.channel channel on_channel) (eq-eqb e.hop hop at_hop)
 
-  pub taken-kind : (count : Kind → ℕ) → place_taken channel hop count e ≡ count e.kind
+  pub taken-kind : (count : Kind → ℕ) → node_taken channel hop count e ≡ count e.kind
   taken-kind count = cond-true ((e.channel == channel) && (e.hop == hop)) (count e.kind) 0 here
 
   pub taken-next : (count count' : Kind → ℕ) (n : ℕ) → n ≡ count e.kind → ((k : Kind) → count' k ≡ count k + one_of k e.kind)
-      → (l : Lane) → place_taken channel hop count' l ≡ cond (same_lane l e) (n + 1) (place_taken channel hop count l)
+      → (l : Lane) → node_taken channel hop count' l ≡ cond (same_lane l e) (n + 1) (node_taken channel hop count l)
   taken-next count count' n number counts l = ⊎_elim
       (λ (t : same_lane l e ≡ true).
       let more : count' e.kind ≡ n + 1 = counts e.kind ∙ (λ i. sym number i + one-more e.kind i) in
-      ap (λ (m : Lane). place_taken channel hop count' m) (same_lane-equal l e t) ∙ taken-kind count' ∙ more ∙ sym (cond-true (same_lane l e) (n + 1) (place_taken channel hop count l) t))
+      ap (λ (m : Lane). node_taken channel hop count' m) (same_lane-equal l e t) ∙ taken-kind count' ∙ more ∙ sym (cond-true (same_lane l e) (n + 1) (node_taken channel hop count l) t))
       (λ (f : same_lane l e ≡ false). ⊎_elim
       (λ (t : ((l.channel == channel) && (l.hop == hop)) ≡ true).
       let p = and_parts _ _ t in
@@ -50,10 +50,10 @@ module _ (channel hop : ℕ) (e : Lane) (on_channel : e.channel ≡ channel) (at
       let none = none-more l e lc lh f in
       let more = counts l.kind in
       let stays : count' l.kind ≡ count l.kind = omega (arith, more, none) in
-      ap (λ (k : ℕ). cond ((l.channel == channel) && (l.hop == hop)) k 0) stays ∙ sym (cond-false (same_lane l e) (n + 1) (place_taken channel hop count l) f))
+      ap (λ (k : ℕ). cond ((l.channel == channel) && (l.hop == hop)) k 0) stays ∙ sym (cond-false (same_lane l e) (n + 1) (node_taken channel hop count l) f))
       (λ (o : ((l.channel == channel) && (l.hop == hop)) ≡ false).
       cond-false ((l.channel == channel) && (l.hop == hop)) (count' l.kind) 0 o
       ∙ sym (cond-false ((l.channel == channel) && (l.hop == hop)) (count l.kind) 0 o)
-      ∙ sym (cond-false (same_lane l e) (n + 1) (place_taken channel hop count l) f))
+      ∙ sym (cond-false (same_lane l e) (n + 1) (node_taken channel hop count l) f))
       (cases_Bool ((l.channel == channel) && (l.hop == hop))))
       (cases_Bool (same_lane l e))

@@ -17,7 +17,7 @@ use Rattle.pl_head.specs.HeadStand.{HeadView, BufferAfter, HeadStandsAfter}
 use Rattle.pl_head.proofs.HeadAfter.{marks_after}
 use Rattle.pl_part.specs.HeadHolds.{HeadHolds}
 use Rattle.pl_part.specs.Paths.{PathPartView}
-use Rattle.pl_part.specs.Parts.{ChannelPartView, PartHolds, SamePart, head_hop, part_taken, part_writes, part_came}
+use Rattle.pl_part.specs.Parts.{ChannelPartView, PartHolds, SamePart, head_hop, part_gone, part_taken, part_writes, part_came}
 use Rattle.pl_part.specs.Told.{told_head, told_part, part_untold, IsTold, TellsNext}
 use Rattle.pl_part.proofs.HeadTaken.{took-same}
 
@@ -101,7 +101,7 @@ module _ {T : Type 0} (state : T → TransportState) where
         holds = record {
           own = t.own;
           few = t.few;
-          took = took-same state s.events h (told_head n h) t.took t.took.sizes (told-after h.failure (state h.transport).accepted h.buffer n t.took.ys t.took.zs _ t.took.sizes t.took.after) refl refl refl;
+          took = took-same state s.events h (told_head n h) t.took t.took.sizes (told-after h.failure (state h.transport).accepted h.buffer n t.took.ys t.took.zs _ t.took.sizes t.took.after) refl refl refl refl;
           most = t.most;
           may = t.may;
           may_itself = t.may_itself;
@@ -122,6 +122,10 @@ module _ {S T : Type 0} (n : ℕ) (path : PathPartView S) where
   same-by : (o : Option (HeadView T)) → is_some (option_map (told_head n) o) ≡ is_some o
   same-by None = refl
   same-by (Some h) = refl
+
+  gone-by : (o : Option (HeadView T)) → part_gone (told_part n (part o)) ≡ part_gone (part o)
+  gone-by None = refl
+  gone-by (Some h) = refl
 
   taken-by : (o : Option (HeadView T)) (l : Lane) → part_taken (told_part n (part o)) l ≡ part_taken (part o) l
   taken-by None l = refl
@@ -150,8 +154,9 @@ module _ {S T : Type 0} (n : ℕ) (path : PathPartView S) where
 module _ {S T : Type 0} (n : ℕ) (p : ChannelPartView S T) where
   pub told-same : SamePart p (told_part n p)
   told-same = record {
-    path = record { channel = refl; executors = refl; contexts = refl; tail = refl; tail_hop = refl; turn = refl };
+    path = record { channel = refl; executors = refl; contexts = refl; tail = refl; tail_hop = refl; turn = refl; handed = refl };
     head = same-by n p.path p.head;
+    gone = gone-by n p.path p.head;
   }
 
   pub told-taken : (l : Lane) → part_taken (told_part n p) l ≡ part_taken p l

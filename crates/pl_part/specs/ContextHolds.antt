@@ -6,7 +6,7 @@ use Rattle.pl_event.specs.declared.envelopes.Lane.{Lane}
 use Rattle.pl_event.specs.declared.stages.Direction.{Direction}
 use Rattle.pl_event.specs.Meaning.{Meaning, up_of, down_of}
 use Rattle.pl_context.specs.declared.ports.Port.{Port}
-use Rattle.pl_context.specs.declared.standing.Standing.TheVariants as stands
+use Rattle.pl_context.specs.declared.standing.Standing.TheVariants as standings
 use Rattle.pl_context.specs.Standings.{is_over, has_failed}
 use Rattle.pl_context.specs.ContextViews.{ContextView, has_up, has_down, down_hop}
 use Rattle.pl_context.specs.Contexts.{StandsAfter}
@@ -73,14 +73,14 @@ module _ {S : Type 0} (world : World) (meaning : S → Meaning) (stands_after : 
   pub record HoldsWith (m : Meaning) (events : List Event) (c : ContextView S) : Type 0 where
     pub meant : meaning c.stage ≡ m
     pub wired : IsWired world m events c.channel c.hop c.up.lane c.down.lane c.flags.lane
-    pub within : c.standing ≡ stands.Open → c.taken ≤ length events
-    pub stood : c.standing ≡ stands.Open → StandsAfter meaning stands_after c (take c.taken events)
-    pub up_open : c.standing ≡ stands.Open → c.up.is_open ≡ has_up m.direction
-    pub down_open : c.standing ≡ stands.Open → c.down.is_open ≡ (has_down m.direction && not (m.ended (take c.taken events)))
+    pub within : c.standing ≡ standings.Open → c.taken ≤ length events
+    pub stood : c.standing ≡ standings.Open → StandsAfter meaning stands_after c (take c.taken events)
+    pub up_open : c.standing ≡ standings.Open → c.up.is_open ≡ has_up m.direction
+    pub down_open : c.standing ≡ standings.Open → c.down.is_open ≡ (has_down m.direction && not (m.ended (take c.taken events)))
     pub up_over : is_over c.standing ≡ true → c.up.is_open ≡ false
     pub down_over : is_over c.standing ≡ true → c.down.is_open ≡ false
-    pub ended : c.standing ≡ stands.Ended → length events ≤ c.taken
-    pub up_given : c.standing ≡ stands.Ended → has_up m.direction ≡ true → c.up.made ≡ length (up_of m events) + 1
+    pub ended : c.standing ≡ standings.Ended → length events ≤ c.taken
+    pub up_given : c.standing ≡ standings.Ended → has_up m.direction ≡ true → c.up.made ≡ length (up_of m events) + 1
     pub down_given : has_failed c.standing ≡ false → has_down m.direction ≡ true → c.down.is_open ≡ false → c.down.made ≡ length (down_of m (take c.taken events)) + 1
     pub flags_open : c.flags.is_open ≡ true → has_up m.direction ≡ true
     pub flags : has_failed c.standing ≡ false → c.flags.is_open ≡ true → c.flags.made ≡ c.flags_taken

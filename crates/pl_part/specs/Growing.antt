@@ -7,7 +7,7 @@ use Rattle.pl_event.specs.Hops.{data_lane}
 use Rattle.pl_event.specs.Inputs.{burst_events}
 use Rattle.pl_event.specs.Meaning.{Meaning}
 use Rattle.pl_event.specs.Worlds.{World, content_of}
-use Rattle.pl_context.specs.declared.standing.Standing.TheVariants as stands
+use Rattle.pl_context.specs.declared.standing.Standing.TheVariants as standings
 use Rattle.pl_context.specs.ContextViews.{ContextView}
 use Rattle.pl_context.specs.TailViews.{TailView}
 use Rattle.pl_head.specs.HeadStand.{HeadView, fed_head}
@@ -44,7 +44,7 @@ pub record MayBeFed {S T : Type 0} (world world' : World) (meaning : S → Meani
   pub more : CarriesMore world world' p.path.channel
   pub input : (events : List Event) → content_of world (data_lane p.path.channel 0) ≡ Some events → content_of world' (data_lane p.path.channel 0) ≡ Some (events ++ burst_events burst)
   pub contexts : (hop : ℕ) (c : ContextView S) → context_at p.path hop ≡ Some c → (events : List Event) × IsPlanned world' (meaning c.stage) events p.path.channel hop p.path.tail_hop
-  pub context_ended : (hop : ℕ) (c : ContextView S) → context_at p.path hop ≡ Some c → c.standing ≡ stands.Ended → CarriesSame world world' p.path.channel hop
-  pub tail_ended : (t : TailView) → p.path.tail ≡ Some t → t.standing ≡ stands.Ended → CarriesSame world world' p.path.channel p.path.tail_hop
-  pub head_ended : (h : HeadView T) → p.head ≡ Some h → h.standing ≡ stands.Ended → CarriesSame world world' p.path.channel (head_hop p)
+  pub context_ended : (hop : ℕ) (c : ContextView S) → context_at p.path hop ≡ Some c → c.standing ≡ standings.Ended → CarriesSame world world' p.path.channel hop
+  pub tail_ended : (t : TailView) → p.path.tail ≡ Some t → t.standing ≡ standings.Ended → CarriesSame world world' p.path.channel p.path.tail_hop
+  pub head_ended : (h : HeadView T) → p.head ≡ Some h → h.standing ≡ standings.Ended → CarriesSame world world' p.path.channel (head_hop p)
   pub reads : (h : HeadView T) → p.head ≡ Some h → takes_bursts h.input ≡ true

@@ -5,11 +5,12 @@ use Rattle.pl_event.specs.declared.envelopes.Lane.{Lane}
 use Rattle.pl_event.specs.Hops.{same_lane, data_lane, flags_lane}
 use Rattle.pl_event.specs.Inputs.{recorded_input}
 use Rattle.pl_event.specs.Worlds.{World, content_of}
-use Rattle.pl_context.specs.declared.standing.Standing.TheVariants as stands
+use Rattle.pl_context.specs.declared.standing.Standing.TheVariants as standings
 use Rattle.pl_context.specs.Standings.{is_over, cause_of}
 use Rattle.pl_flow.specs.Flows.{Point, nowhere}
 use Rattle.pl_head.specs.declared.inputs.ReadPlan.{ReadPlan}
 use Rattle.pl_head.specs.Marks.{Change}
+use Rattle.pl_head.specs.Writes.{bytes_of, out, unflushed_writes}
 use Rattle.pl_head.specs.Transports.{TransportState}
 use Rattle.pl_head.specs.HeadStand.{HeadView, HeadStandsAfter, ReadsStand, HasFewFlags, lane_over}
 use Rattle.pl_part.specs.ContextHolds.{port_point}
@@ -35,21 +36,25 @@ head_taken h l = cond (same_lane l (data_lane h.channel h.hop)) h.taken 0
 -- ---- the stand
 
 module _ {T : Type 0} (state : T → TransportState) where
-  -- What it took of its lane: the events ys up to a failure of its own, and zs from it on. Both together are the first
-  -- events of the lane, in order and with none left out: no more than the items that it took, and as many while the lane is
-  -- open. Where the lane has ended before such a failure, ys are all there are; and from a failure behind the end or the
+  -- What it took of its lane: the events that are forgotten, of which no byte waits, then ys up to a failure of its own, and zs
+  -- from it on. Together they are the first events of the lane, in order and with none left out: no more than the items that it took, and as many
+  -- while the lane is open. Where the lane has ended before such a failure, ys are all there are; and from a failure behind the end or the
   -- failure of its lane it took none.
   pub record HeadTook (events : List Event) (h : HeadView T) : Type 0 where
+    pub gone : List Event
+    pub bytes : h.gone ≡ length (out gone)
+    pub flushed : bytes_of (unflushed_writes gone) ≡ []
+    pub never : h.has_forgotten ≡ false → gone ≡ []
     pub ys : List Event
     pub zs : List Event
     pub sizes : List Change
     pub after : HeadStandsAfter state h ys zs sizes
     pub count : ℕ
     pub within : count ≤ length events
-    pub in_order : ys ++ zs ≡ take count events
+    pub in_order : (gone ++ ys) ++ zs ≡ take count events
     pub most : count ≤ h.taken
     pub running : lane_over h ≡ false → h.taken ≡ count
-    pub ended : h.standing ≡ stands.Ended → count ≡ length events
+    pub ended : h.standing ≡ standings.Ended → count ≡ length events
     pub none_late : is_over h.standing ≡ true → zs ≡ []
 
   -- It holds, where its lane carries these events and it reads by this plan.

@@ -11,3 +11,4 @@ pub mod PartCalls
 pub mod Shares
 pub mod Told
 pub mod Growing
+pub mod Forgetting

@@ -12,7 +12,7 @@ use Rattle.pl_context.specs.Stops.{HasPlaces}
 use Rattle.pl_flow.specs.Flows.{IsGood}
 use Rattle.pl_flow.specs.LanesViews.{KeepsPlaces}
 use Rattle.pl_flow.specs.Makes.{Makes}
-use Rattle.pl_head.specs.HeadStand.{HeadView}
+use Rattle.pl_head.specs.HeadStand.{HeadView, gone_of}
 use Rattle.pl_head.specs.Transports.{TransportState}
 use Rattle.pl_part.specs.HeadHolds.{HeadHolds, head_writes, head_came, head_lanes}
 use Rattle.pl_part.specs.Parts.{ChannelPartView, PartHolds, PartTakes, SamePart, has_entered, part_taken, part_lanes, part_writes, writes_at, part_came}
@@ -27,10 +27,10 @@ pub record IsNextFor {S T : Type 0} (world : World) (meaning : S → Meaning) (s
   pub good : IsGood world e
   pub places : HasPlaces before.stopped (part_lanes p)
 
--- A head has put something, and has taken nothing. In each world where it held it holds again, and what it has put is the next
+-- A head has put something, and has taken and forgotten nothing. In each world where it held it holds again, and what it has put is the next
 -- of its lanes.
 pub record HeadGiven {T : Type 0} (state : T → TransportState) (h : HeadView T) (before : OutputsView) (h' : HeadView T) (after : OutputsView) : Type 0 where
-  pub place : (h'.channel ≡ h.channel) × (h'.hop ≡ h.hop)
+  pub same_node : (h'.channel ≡ h.channel) × (h'.hop ≡ h.hop) × (gone_of h' ≡ gone_of h)
   pub taken : h'.taken ≡ h.taken
   pub holds : (world : World) → HeadHolds state world h → HeadHolds state world h'
   pub made : (world : World) → HeadHolds state world h → Makes world (head_writes h) (head_came h) (head_came h') before after

@@ -9,7 +9,7 @@ use Rattle.pl_event.specs.Hops.{same_lane, data_lane}
 use Rattle.pl_event.specs.Meaning.{Meaning}
 use Rattle.pl_event.specs.Worlds.{World}
 use Rattle.pl_context.specs.declared.standing.Standing.{Standing}
-use Rattle.pl_context.specs.declared.standing.Standing.TheVariants as stands
+use Rattle.pl_context.specs.declared.standing.Standing.TheVariants as standings
 use Rattle.pl_context.specs.declared.standing.Took.{Took}
 use Rattle.pl_context.specs.Standings.{is_over, together}
 use Rattle.pl_context.specs.OutputsViews.{OutputsView}
@@ -21,7 +21,7 @@ use Rattle.pl_head.specs.declared.heads.OutStep.TheVariants as step
 use Rattle.pl_head.specs.declared.heads.ReadStep.{ReadStep}
 use Rattle.pl_head.specs.declared.heads.ReadStep.TheVariants as reading
 use Rattle.pl_head.specs.Transports.{TransportState}
-use Rattle.pl_head.specs.HeadStand.{HeadView, head_cause}
+use Rattle.pl_head.specs.HeadStand.{HeadView, gone_of, head_cause}
 use Rattle.pl_part.specs.Paths.{PathPartView, SamePath, PathHolds, PathTakes, writer_hop, enters_path, path_over, path_standing, path_taken, path_lanes, path_writes, path_came}
 use Rattle.pl_part.specs.HeadHolds.{HeadHolds, head_writes, head_came, head_taken}
 use Rattle.pl_head.specs.HeadCalls.{HeadTakes, HeadReads, HeadWrites, HeadAborts}
@@ -36,10 +36,15 @@ pub record ChannelPartView (S T : Type 0) : Type 0 where
 abbrev pub head_hop : {S T : Type 0} → ChannelPartView S T → ℕ
 head_hop p = length p.path.contexts
 
--- the same nodes of the same channel
+-- what of its head's output is gone, and whether that has forgotten anything, where it is one of the nodes
+abbrev pub part_gone : {S T : Type 0} → ChannelPartView S T → ℕ × Bool
+part_gone p = option_map_or (λ (h : HeadView _). gone_of h) p.head (0, false)
+
+-- the same nodes of the same channel, of which the head has forgotten no more
 pub record SamePart {S T : Type 0} (p p' : ChannelPartView S T) : Type 0 where
   pub path : SamePath p.path p'.path
   pub head : is_some p'.head ≡ is_some p.head
+  pub gone : part_gone p' ≡ part_gone p
 
 -- a lane enters one of its nodes
 abbrev pub has_entered : {S T : Type 0} → ChannelPartView S T → Lane → Bool
@@ -51,11 +56,11 @@ all_over p = path_over p.path && option_map_or (λ (h : HeadView _). is_over h.s
 
 -- how a head stands: failed by itself or by what it took, or else as its lane
 abbrev pub head_standing : {T : Type 0} → HeadView T → Standing
-head_standing h = option_map_or (λ cause. stands.Failed cause) (head_cause h) h.standing
+head_standing h = option_map_or (λ cause. standings.Failed cause) (head_cause h) h.standing
 
 -- how all of its nodes stand together, the head before the others
 abbrev pub part_standing : {S T : Type 0} → ChannelPartView S T → Standing
-part_standing p = together (option_map_or (λ (h : HeadView _). head_standing h) p.head stands.Open) (path_standing p.path)
+part_standing p = together (option_map_or (λ (h : HeadView _). head_standing h) p.head standings.Open) (path_standing p.path)
 
 -- a read step is left
 abbrev pub has_read : {S T : Type 0} → ChannelPartView S T → Bool
@@ -130,7 +135,7 @@ module _ {S T : Type 0} (state : T → TransportState) where
     pub path : p'.path ≡ p.path
 
 module _ {S T : Type 0} (world : World) (meaning : S → Meaning) (stands_after : S → List Event → Type 0) (state : T → TransportState) where
-  -- Each node holds, and stands at its place. Each hop has an executor.
+  -- Each node holds, and stands at its hop. Each hop has an executor.
   pub record PartHolds (p : ChannelPartView S T) : Type 0 where
     pub path : PathHolds world meaning stands_after p.path
     pub head : (h : HeadView T) → p.head ≡ Some h → HeadHolds state world h × (h.channel ≡ p.path.channel) × (h.hop ≡ head_hop p)

@@ -13,7 +13,7 @@ use Rattle.pl_event.specs.Paths.{is_turn}
 use Rattle.pl_event.specs.Worlds.{World}
 use Rattle.pl_context.specs.declared.contexts.TheConstants.{MAX_HANDLERS}
 use Rattle.pl_context.specs.declared.standing.Standing.{Standing}
-use Rattle.pl_context.specs.declared.standing.Standing.TheVariants as stands
+use Rattle.pl_context.specs.declared.standing.Standing.TheVariants as standings
 use Rattle.pl_context.specs.declared.standing.Took.{Took}
 use Rattle.pl_context.specs.Standings.{is_over, together}
 use Rattle.pl_context.specs.ContextViews.{ContextView, IsHop, down_hop, taken_of}
@@ -44,7 +44,11 @@ pub record IsPathPart (hops contexts tail_hop turn : ℕ) : Type 0 where
   pub within : tail_hop < contexts
   pub turned : turn < tail_hop
 
--- the same nodes of the same channel
+-- how many events its tail has handed over, where that is one of the nodes
+abbrev pub path_handed_over : {S : Type 0} → PathPartView S → ℕ
+path_handed_over p = option_map_or (λ (t : TailView). t.handed) p.tail 0
+
+-- the same nodes of the same channel, of which the tail has handed over no more
 pub record SamePath {S : Type 0} (p p' : PathPartView S) : Type 0 where
   pub channel : p'.channel ≡ p.channel
   pub executors : p'.executors ≡ p.executors
@@ -52,6 +56,7 @@ pub record SamePath {S : Type 0} (p p' : PathPartView S) : Type 0 where
   pub tail : is_some p'.tail ≡ is_some p.tail
   pub tail_hop : p'.tail_hop ≡ p.tail_hop
   pub turn : p'.turn ≡ p.turn
+  pub handed : path_handed_over p' ≡ path_handed_over p
 
 -- ---- its nodes
 
@@ -85,7 +90,7 @@ slots_stand standing (Some c ∷ slots) = slots_stand (together standing c.stand
 
 -- how all of its nodes stand together, the tail before the contexts
 abbrev pub path_standing : {S : Type 0} → PathPartView S → Standing
-path_standing p = slots_stand (option_map_or (λ (t : TailView). t.standing) p.tail stands.Open) p.contexts
+path_standing p = slots_stand (option_map_or (λ (t : TailView). t.standing) p.tail standings.Open) p.contexts
 
 -- A lane is refused, and so is its writer. That is the context that writes it, where it is one of the nodes. The
 -- others are as they were, and so are all of them where it is a flags lane, or one that the head writes.

@@ -1,37 +1,38 @@
 //! The nodes of a channel that are on one executor, with the head.
 
-ghost use Rattle.std.specs.Prelude.{◌≡◌, ℕ, ◌+◌, ◌<◌, ◌≤◌, ◌^◌, ◌==◌, ◌++◌, ◌∷◌, [], List, All, IfOk, IfSome, IfNone, Some, None, ◌||◌, map, replicate, is_some, length, get_or, true, false, OnOk, OnErr, not};
+ghost use Rattle.std.specs.Prelude.{◌≡◌, ℕ, ◌+◌, ◌<◌, ◌≤◌, ◌^◌, ◌==◌, ◌++◌, ◌∷◌, [], List, All, IfOk, IfSome, IfNone, IsTrue, Some, None, ◌||◌, map, replicate, is_some, length, get_or, true, false, OnOk, OnErr, not};
 ghost use Rattle.std.specs.Option.{option_map_or};
 ghost use Rattle.pl_event.specs.declared.envelopes.Kind.TheVariants as kind;
 ghost use Rattle.pl_event.specs.declared.limits.TheConstants.{MAX_ITEMS};
 ghost use Rattle.pl_event.specs.Inputs.{Bursts};
 ghost use Rattle.pl_event.specs.Worlds.{World};
 ghost use Rattle.pl_context.specs.declared.contexts.TheConstants.{MAX_HANDLERS};
-ghost use Rattle.pl_context.specs.declared.standing.Standing.TheVariants as stands;
+ghost use Rattle.pl_context.specs.declared.standing.Standing.TheVariants as standings;
 ghost use Rattle.pl_context.specs.Standings.{is_over};
 ghost use Rattle.pl_context.specs.ContextViews.{ContextView};
 ghost use Rattle.pl_context.specs.Stops.{HasPlaces};
 ghost use Rattle.pl_context.specs.TailViews.{new_tail};
-ghost use Rattle.pl_head.specs.HeadStand.{HeadView, HeadStandsAfter, ReadsStand, is_idle};
+ghost use Rattle.pl_head.specs.HeadStand.{HeadView, HeadStandsAfter, ReadsStand, can_forget, is_idle};
 ghost use Rattle.pl_head.specs.InputStand.{fed_plan, items_left, takes_bursts};
 ghost use Rattle.pl_event.specs.declared.events.Event.{Event};
 ghost use Rattle.pl_head.specs.Marks.{Change};
 ghost use Rattle.pl_part.specs.NewParts.{ArePlannedWith, AreNewSlots, whole_slots};
 ghost use Rattle.pl_part.specs.HeadHolds.{HeadHolds};
 ghost use Rattle.pl_part.specs.Paths.{PathRefuses, context_at, writer_hop};
-ghost use Rattle.pl_part.specs.Parts.{PartHolds, PartTakes, PartReads, PartWrites, PartMoves, PartAborts, head_hop, has_read, all_over, head_standing, part_standing, part_lanes};
+ghost use Rattle.pl_part.specs.Parts.{PartHolds, PartTakes, PartReads, PartWrites, PartMoves, PartAborts, head_hop, has_read, all_over, head_standing, part_gone, part_standing, part_lanes};
 ghost use Rattle.pl_part.specs.Counts.{head_done, part_done};
 ghost use Rattle.pl_part.specs.PartCalls.{IsNextFor, Taken, Given, PartRefused};
 ghost use Rattle.pl_part.specs.Shares.{IsShareOf};
 ghost use Rattle.pl_part.specs.Told.{IsTold, TellsNext, part_untold};
 ghost use Rattle.pl_part.specs.Growing.{fed_part};
+ghost use Rattle.pl_part.specs.Forgetting.{PartForgets, part_can_forget, part_handed, path_record};
 
 use crate::paths::PathPart;
 use crate::shares::take_where;
 use pl_context::{Outputs, Standing, Tail, Took};
-use pl_event::{Element, Envelope, Lane, Outcome, Sequence, Stage};
+use pl_event::{Element, Envelope, Event, Lane, Outcome, Sequence, Stage};
 use pl_flow::HeadMove;
-use pl_head::{Head, OutStep, ReadStep, Transport};
+use pl_head::{Draining, Head, OutStep, ReadStep, Transport};
 use std::alloc::{AllocError, Global};
 use std::marker::Model;
 
@@ -70,7 +71,7 @@ impl<S: Stage, T: Transport> ChannelPart<S, T> {
         requires new_outbound { All (λ stage. S.stands_after stage []) outbound.items }
         requires planned { (world : World) × ArePlannedWith world S.meaning channel turn inbound.items outbound.items }
         requires last { (head.channel ≡ channel) × (head.hop ≡ length inbound.items + length outbound.items + 1) }
-        ensures place { IfOk result (λ part. (part.path.channel ≡ channel) × (part.path.executors ≡ executors.items) × (part.path.tail_hop ≡ length inbound.items) × (part.path.turn ≡ turn)) }
+        ensures path { IfOk result (λ part. (part.path.channel ≡ channel) × (part.path.executors ≡ executors.items) × (part.path.tail_hop ≡ length inbound.items) × (part.path.turn ≡ turn)) }
         ensures contexts { IfOk result (λ part. part.path.contexts ≡ whole_slots S.meaning channel inbound.items outbound.items) }
         ensures filled { IfOk result (λ part. map (λ slot. is_some slot) part.path.contexts ≡ replicate (length inbound.items) true ++ false ∷ replicate (length outbound.items) true) }
         ensures tail { IfOk result (λ part. part.path.tail ≡ Some (new_tail channel (length inbound.items))) }
@@ -287,6 +288,15 @@ impl<S: Stage, T: Transport> ChannelPart<S, T> {
         head.next_settled()
     }
 
+    /// The tail, where it is among the nodes, hands its record over, and goes on with an empty one. It takes no memory.
+    pub fn take_record(&mut self, alloc: Global) -> Sequence<Event>
+        ensures record { result ≡ path_record self.old.path }
+        ensures goes_on { self.new ≡ part_handed self.old }
+        ensures holds { (world : World) → PartHolds world S.meaning S.stands_after T.state self.old → PartHolds world S.meaning S.stands_after T.state self.new }
+    {
+        self.path.take_record(alloc)
+    }
+
     /// Gives the part up for the channel's ends, where they are among its nodes.
     pub fn into_ends(self) -> (Option<Tail>, Option<Head<T>>)
         ensures tail { result.0 ≡ self.path.tail }
@@ -323,9 +333,36 @@ impl<S: Stage, T: Transport> ChannelPart<S, T> {
     }
 }
 
+impl<S: Stage, T: Draining> ChannelPart<S, T> {
+    /// How many bytes of the head's output are gone (`Head::gone`); 0 where the head is not among the nodes.
+    pub fn gone(&self) -> usize
+        ensures { result ≡ (part_gone self.now).0 }
+    {
+        match &self.head {
+            Some(head) => head.gone(),
+            None => 0,
+        }
+    }
+
+    /// The head, where it is among the nodes, forgets what it took before the first write that waits (`Head::forget`). False where it
+    /// cannot: nothing is changed. It takes no memory.
+    pub fn forget(&mut self) -> bool
+        ensures can { IsTrue result → part_can_forget self.old ≡ true }
+        ensures due { result ≡ false → (h : HeadView T) → self.old.head ≡ Some h → can_forget h ≡ true → 2 ^ 64 ≤ h.gone + length (T.state h.transport).accepted }
+        ensures forgets { IsTrue result → PartForgets T.state self.old self.new }
+        ensures holds { (world : World) → PartHolds world S.meaning S.stands_after T.state self.old → PartHolds world S.meaning S.stands_after T.state self.new }
+        ensures kept { result ≡ false → self.new ≡ self.old }
+    {
+        match &mut self.head {
+            Some(head) => head.forget(),
+            None => false,
+        }
+    }
+}
+
 /// How a head stands, where there is one: failed by itself or by what it took, and else as its lane.
 fn standing_of<T: Transport>(head: &Option<Head<T>>) -> Standing
-    ensures { result ≡ option_map_or (λ (h : HeadView _). head_standing h) head.now stands.Open }
+    ensures { result ≡ option_map_or (λ (h : HeadView _). head_standing h) head.now standings.Open }
 {
     match head {
         Some(head) => match head.cause() {

@@ -19,13 +19,14 @@ ghost use Rattle.pl_part.specs.NewParts.{ArePlannedWith, AreNewSlots, whole_slot
 ghost use Rattle.pl_part.specs.Counts.{path_done};
 ghost use Rattle.pl_part.specs.PathCalls.{IsNextOnPath, PathTaken, PathRefused};
 ghost use Rattle.pl_part.specs.Paths.{PathHolds, PathTakes, PathRefuses, SamePath, context_at, writer_hop, enters_path, path_over, path_standing, is_slot_over, path_taken, path_lanes, path_writes, path_writes_at, path_came};
+ghost use Rattle.pl_part.specs.Forgetting.{path_record, path_handed};
 ghost use Rattle.pl_part.specs.Shares.{IsPathShare, executor_of};
 
 use crate::new_contexts::add_contexts;
 use crate::refusing::refuse_at;
 use crate::shares::{take_contexts, take_where};
 use pl_context::{Context, Outputs, Standing, Tail, Took};
-use pl_event::{Envelope, Lane, Stage};
+use pl_event::{Envelope, Event, Lane, Sequence, Stage};
 use std::alloc::{AllocError, Global};
 use std::marker::Model;
 
@@ -73,7 +74,7 @@ impl<S: Stage> PathPart<S> {
         requires new_inbound { All (λ stage. S.stands_after stage []) inbound.items }
         requires new_outbound { All (λ stage. S.stands_after stage []) outbound.items }
         requires planned { (world : World) × ArePlannedWith world S.meaning channel turn inbound.items outbound.items }
-        ensures place { IfOk result (λ part. (part.channel ≡ channel) × (part.executors ≡ executors.items) × (part.tail_hop ≡ length inbound.items) × (part.turn ≡ turn)) }
+        ensures path { IfOk result (λ part. (part.channel ≡ channel) × (part.executors ≡ executors.items) × (part.tail_hop ≡ length inbound.items) × (part.turn ≡ turn)) }
         ensures contexts { IfOk result (λ part. part.contexts ≡ whole_slots S.meaning channel inbound.items outbound.items) }
         ensures filled { IfOk result (λ part. map (λ slot. is_some slot) part.contexts ≡ replicate (length inbound.items) true ++ false ∷ replicate (length outbound.items) true) }
         ensures tail { IfOk result (λ part. part.tail ≡ Some (new_tail channel (length inbound.items))) }
@@ -138,6 +139,18 @@ impl<S: Stage> PathPart<S> {
         ensures none { IfNone result (self.now.tail ≡ None) }
     {
         self.tail.as_ref()
+    }
+
+    /// The tail, where it is one of the nodes, hands its record over, and goes on with an empty one. It takes no memory.
+    pub(crate) fn take_record(&mut self, alloc: Global) -> Sequence<Event>
+        ensures record { result ≡ path_record self.old }
+        ensures goes_on { self.new ≡ path_handed self.old }
+        ensures holds { (world : World) → PathHolds world S.meaning S.stands_after self.old → PathHolds world S.meaning S.stands_after self.new }
+    {
+        match &mut self.tail {
+            Some(tail) => tail.take_record(alloc),
+            None => Sequence::new(alloc),
+        }
     }
 
     /// Gives the nodes up for the tail, where it is one of them.

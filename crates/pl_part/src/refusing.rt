@@ -25,7 +25,7 @@ pub fn refuse_at<S: Stage>(context: &mut Context<S>, lane: Lane, work: &mut Outp
     ensures refused { ContextRefused lane.kind context.old work.old context.new work.new }
     ensures holds { (world : World) → world.refuses ≡ true → ContextHolds world S.meaning S.stands_after context.old → ContextHolds world S.meaning S.stands_after context.new }
     ensures meaning { S.meaning context.new.stage ≡ S.meaning context.old.stage }
-    ensures place { (context.new.channel ≡ context.old.channel) × (context.new.hop ≡ context.old.hop) }
+    ensures same_node { (context.new.channel ≡ context.old.channel) × (context.new.hop ≡ context.old.hop) }
     ensures taken { (k : Kind) → kind_taken context.new k ≡ kind_taken context.old k }
     ensures lanes { context_lanes context.new ≡ context_lanes context.old }
     ensures over { lane.kind ≡ kind.Data → is_over context.new.standing ≡ true }

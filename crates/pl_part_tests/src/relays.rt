@@ -36,7 +36,7 @@ impl Stage for Relay {
     }
 
     fn step(&mut self, event: Event, up: &mut Vec<Event>, down: &mut Vec<Event>) -> Stepped {
-        if self.is_spent || self.steps == 0 || reserve(up, down).is_err() {
+        if self.is_spent || self.steps == 0 || up.reserve(1).is_err() || down.reserve(1).is_err() {
             drop(event);
             self.is_spent = true;
             return Err(StageFault::Memory);
@@ -57,17 +57,6 @@ fn new_relay(direction: Direction, steps: u32) -> Relay
         steps,
         is_spent: false,
     }
-}
-
-/// Makes room for one more event on each list.
-fn reserve(up: &mut Vec<Event>, down: &mut Vec<Event>) -> Result<(), AllocError>
-    ensures up { up.new.items ≡ up.old.items }
-    ensures down { down.new.items ≡ down.old.items }
-    ensures room_up { OnOk result (vec_len up.new < vec_capacity up.new) }
-    ensures room_down { OnOk result (vec_len down.new < vec_capacity down.new) }
-{
-    up.reserve(1)?;
-    down.reserve(1)
 }
 
 fn pass(direction: Direction, event: Event, up: &mut Vec<Event>, down: &mut Vec<Event>)

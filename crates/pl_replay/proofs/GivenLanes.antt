@@ -11,7 +11,7 @@ use Rattle.pl_event.specs.Worlds.{World}
 use Rattle.pl_event.proofs.SameLanes.{same_lane-self, same_lane-flip}
 use Rattle.pl_context.specs.declared.ports.Port.{Port}
 use Rattle.pl_context.specs.declared.standing.Standing.{Standing}
-use Rattle.pl_context.specs.declared.standing.Standing.TheVariants as stands
+use Rattle.pl_context.specs.declared.standing.Standing.TheVariants as standings
 use Rattle.pl_context.specs.Standings.{is_over, has_failed}
 use Rattle.pl_context.specs.ContextViews.{ContextView, has_up, has_down}
 use Rattle.pl_flow.specs.Flows.{point, nowhere}
@@ -62,30 +62,30 @@ module _ {S T : Type 0} (world : World) (meaning : S → Meaning) (stands_after 
 
   module _ (events : List Event) (w : HoldsWith world meaning stands_after (meaning c.stage) events c) where
     -- a context with an open data lane is open
-    live : (o : Bool) → o ≡ true → (is_over c.standing ≡ true → o ≡ false) → c.standing ≡ stands.Open
+    live : (o : Bool) → o ≡ true → (is_over c.standing ≡ true → o ≡ false) → c.standing ≡ standings.Open
     live o opened over = by c.standing refl
       where
-        by : (s : Standing) → c.standing ≡ s → c.standing ≡ stands.Open
-        by stands.Open is = is
-        by stands.Ended is = absurd (both_ways o (over (ap is_over is)) opened)
-        by (stands.Failed cause) is = absurd (both_ways (has_failed c.standing) sound (ap has_failed is))
+        by : (s : Standing) → c.standing ≡ s → c.standing ≡ standings.Open
+        by standings.Open is = is
+        by standings.Ended is = absurd (both_ways o (over (ap is_over is)) opened)
+        by (standings.Failed cause) is = absurd (both_ways (has_failed c.standing) sound (ap has_failed is))
 
     up-closed : has_up (meaning c.stage).direction ≡ true → c.up.is_open ≡ false → c.up.made ≡ length (up_of (meaning c.stage) (take c.taken events)) + 1
     up-closed has closed = by c.standing refl
       where
         by : (s : Standing) → c.standing ≡ s → c.up.made ≡ length (up_of (meaning c.stage) (take c.taken events)) + 1
-        by stands.Open is = absurd (both_ways c.up.is_open closed (w.up_open is ∙ has))
-        by stands.Ended is = let whole = w.ended is in w.up_given is has ∙ ap (λ zs. length (up_of (meaning c.stage) zs) + 1) (sym (take_all c.taken events (omega (arith, whole))))
-        by (stands.Failed cause) is = absurd (both_ways (has_failed c.standing) sound (ap has_failed is))
+        by standings.Open is = absurd (both_ways c.up.is_open closed (w.up_open is ∙ has))
+        by standings.Ended is = let whole = w.ended is in w.up_given is has ∙ ap (λ zs. length (up_of (meaning c.stage) zs) + 1) (sym (take_all c.taken events (omega (arith, whole))))
+        by (standings.Failed cause) is = absurd (both_ways (has_failed c.standing) sound (ap has_failed is))
 
     -- whether a data lane of a context that has not failed is over
     up-over : has_up (meaning c.stage).direction ≡ true → c.up.is_open ≡ not (is_over c.standing)
     up-over has = by c.standing refl
       where
         by : (s : Standing) → c.standing ≡ s → c.up.is_open ≡ not (is_over c.standing)
-        by stands.Open is = w.up_open is ∙ has ∙ sym (ap (λ (s : Standing). not (is_over s)) is)
-        by stands.Ended is = let over = ap is_over is in w.up_over over ∙ sym (ap not over)
-        by (stands.Failed cause) is = let over = ap is_over is in w.up_over over ∙ sym (ap not over)
+        by standings.Open is = w.up_open is ∙ has ∙ sym (ap (λ (s : Standing). not (is_over s)) is)
+        by standings.Ended is = let over = ap is_over is in w.up_over over ∙ sym (ap not over)
+        by (standings.Failed cause) is = let over = ap is_over is in w.up_over over ∙ sym (ap not over)
 
     down-over : has_down (meaning c.stage).direction ≡ true → c.down.is_open ≡ not (is_over c.standing || (meaning c.stage).ended (take c.taken events))
     down-over has = by c.standing refl
@@ -94,9 +94,9 @@ module _ {S T : Type 0} (world : World) (meaning : S → Meaning) (stands_after 
         quit = (meaning c.stage).ended (take c.taken events)
 
         by : (s : Standing) → c.standing ≡ s → c.down.is_open ≡ not (is_over c.standing || quit)
-        by stands.Open is = w.down_open is ∙ open-while (has_down (meaning c.stage).direction) quit has ∙ sym (ap (λ (s : Standing). not (is_over s || quit)) is)
-        by stands.Ended is = w.down_over (ap is_over is) ∙ sym (ap (λ (s : Standing). not (is_over s || quit)) is)
-        by (stands.Failed cause) is = w.down_over (ap is_over is) ∙ sym (ap (λ (s : Standing). not (is_over s || quit)) is)
+        by standings.Open is = w.down_open is ∙ open-while (has_down (meaning c.stage).direction) quit has ∙ sym (ap (λ (s : Standing). not (is_over s || quit)) is)
+        by standings.Ended is = w.down_over (ap is_over is) ∙ sym (ap (λ (s : Standing). not (is_over s || quit)) is)
+        by (standings.Failed cause) is = w.down_over (ap is_over is) ∙ sym (ap (λ (s : Standing). not (is_over s || quit)) is)
 
   pub has-given : HasGiven meaning world c l (came_of meaning ps l)
   has-given =

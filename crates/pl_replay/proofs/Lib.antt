@@ -1,9 +1,10 @@
 pub mod CallViews
-pub mod IdleExecutors
+pub mod IdleStations
 pub mod Kept
 pub mod MoveSteps
 pub mod NetStarts
 pub mod NetEnds
+pub mod Hindered
 pub mod Reached
 pub mod ReportLists
 pub mod GivenLanes

@@ -30,12 +30,12 @@ use Rattle.pl_world.specs.Plans.{Plan}
 use Rattle.pl_world.specs.PlanRules.{IsChannelPlan}
 
 same-view : {N : Type 0} (c c' : Stations N) (backlogs : ℕ → List (Entry (Unit {0}))) → IsUnmoved c c' → stations_view c' backlogs ≡ stations_view c backlogs
-same-view c c' backlogs same = let n = same.nodes in let e = same.executors in let w = same.work in cc
+same-view c c' backlogs same = let n = same.nodes in let e = same.stations in let w = same.work in cc
 
 pub not-moved : {N : Type 0} (c c' : Stations N) → c' ≡ c → IsUnmoved c c'
 not-moved c c' same = record {
   nodes = ap (λ (k : Stations _). k.nodes) same;
-  executors = ap (λ (k : Stations _). k.executors.items) same;
+  stations = ap (λ (k : Stations _). k.stations.items) same;
   work = ap (λ (k : Stations _). k.work) same;
 }
 
@@ -57,7 +57,7 @@ module _ {S T : Type 0} (meaning : S → Meaning) (stands_after : S → List Eve
 
   -- Stations that keep their capacity and executors, and whose nodes keep the plan, stand after a move as before it.
   goes-on : (plan : Plan) (backlogs after : ℕ → List (Entry (Unit {0}))) (stations stations' : Stations (Channels S T)) (x : ℕ) → NetStands meaning stands_after state plan backlogs stations
-      → stations'.capacity ≡ stations.capacity → vec_len stations'.executors ≡ vec_len stations.executors → stations'.work.items ≡ []
+      → stations'.capacity ≡ stations.capacity → vec_len stations'.stations ≡ vec_len stations.stations → stations'.work.items ≡ []
       → StationsStand (nodes_view meaning) (nodes_stand meaning stands_after state) (world_of false plan) x (stations_view stations' after)
       → PartsKeepPlan state plan stations'.nodes.parts.items → NetStands meaning stands_after state plan after stations'
   goes-on plan backlogs after stations stations' x n capacity count empty stands keeps = record {
@@ -66,7 +66,7 @@ module _ {S T : Type 0} (meaning : S → Meaning) (stands_after : S → List Eve
     stands = rest-stands (nodes_view meaning) (nodes_stand meaning stands_after state) (world_of false plan) x 0 (stations_view stations' after) empty stands;
     rests = empty;
     capacity = capacity ∙ n.capacity;
-    executors = sym stations'.executors.ok.0 ∙ count ∙ stations.executors.ok.0 ∙ n.executors;
+    executors = sym stations'.stations.ok.0 ∙ count ∙ stations.stations.ok.0 ∙ n.executors;
     keeps = keeps;
   }
 
@@ -75,7 +75,7 @@ module _ {S T : Type 0} (meaning : S → Meaning) (stands_after : S → List Eve
       → IsEnabled meaning stands_after is_spent state may_refuse plan.capacity move (stations_view stations backlogs) made
       → (made ≡ true → (after : ℕ → List (Entry (Unit {0}))) × StationsStand (nodes_view meaning) (nodes_stand meaning stands_after state) (world_of false plan) x (stations_view stations' after)
       × MakesMove meaning stands_after is_spent state may_refuse plan.capacity move (stations_view stations backlogs) (stations_view stations' after))
-      → (made ≡ false → IsUnmoved stations stations') → stations'.capacity ≡ stations.capacity → vec_len stations'.executors ≡ vec_len stations.executors → stations'.work.items ≡ []
+      → (made ≡ false → IsUnmoved stations stations') → stations'.capacity ≡ stations.capacity → vec_len stations'.stations ≡ vec_len stations.stations → stations'.work.items ≡ []
       → NetStands meaning stands_after state plan backlogs stations
       → (after : ℕ → List (Entry (Unit {0}))) × NetStands meaning stands_after state plan after stations'
       × LeadsTo meaning stands_after is_spent state may_refuse plan.capacity move (stations_view stations backlogs) made (stations_view stations' after)
@@ -91,7 +91,7 @@ module _ {S T : Type 0} (meaning : S → Meaning) (stands_after : S → List Eve
         goes-on plan backlogs backlogs stations stations' 0 n capacity count empty
             (subst (StationsStand (nodes_view meaning) (nodes_stand meaning stands_after state) (world_of false plan) 0) (sym (same-view stations stations' backlogs same)) n.stands)
             (subst (λ (ns : Channels S T). PartsKeepPlan state plan ns.parts.items) (sym same.nodes) n.keeps),
-        record { enabled = enabled; makes = λ yes. absurd (both_ways false refl yes); rests = λ _. record { nodes = same.nodes; executors = ap (map waits_of) same.executors; backlogs = refl; work = same.work } },
+        record { enabled = enabled; makes = λ yes. absurd (both_ways false refl yes); rests = λ _. record { nodes = same.nodes; stations = ap (map waits_of) same.stations; backlogs = refl; work = same.work } },
       )
 
   -- ---- a move of a head
@@ -101,7 +101,7 @@ module _ {S T : Type 0} (meaning : S → Meaning) (stands_after : S → List Eve
       → (made ≡ true → (plan : Plan) (world : World) (x : ℕ) (backlogs : ℕ → List (Entry (Unit {0}))) → StationsStand (nodes_view meaning) (nodes_stand meaning stands_after state) world x (stations_view stations backlogs)
       → (after : ℕ → List (Entry (Unit {0}))) × StationsStand (nodes_view meaning) (nodes_stand meaning stands_after state) world home (stations_view stations' after)
       × MakesMove meaning stands_after is_spent state may_refuse plan.capacity move (stations_view stations backlogs) (stations_view stations' after))
-      → (made ≡ false → stations' ≡ stations) → stations'.capacity ≡ stations.capacity → vec_len stations'.executors ≡ vec_len stations.executors → stations'.work.items ≡ [] → GoesOn move stations made stations'
+      → (made ≡ false → stations' ≡ stations) → stations'.capacity ≡ stations.capacity → vec_len stations'.stations ≡ vec_len stations.stations → stations'.work.items ≡ [] → GoesOn move stations made stations'
   head-goes-on move stations stations' made home enabled runs idle capacity count empty = λ plan backlogs n.
       made-goes-on move stations stations' made home plan backlogs (enabled plan backlogs) (λ yes. runs yes plan (world_of false plan) 0 backlogs n.stands) (λ no. not-moved stations stations' (idle no)) capacity count empty n
 
@@ -109,12 +109,12 @@ module _ {S T : Type 0} (meaning : S → Meaning) (stands_after : S → List Eve
 
   -- a task is run where one is queued
   pub task-enabled : (c : StationsView (Channels S T)) (x : ℕ) (made : Bool) → (made ≡ true → (c' : StationsView (Channels S T)) × RunsTask (nodes_view meaning) (nodes_take meaning stands_after is_spent state) x c c')
-      → (made ≡ false → queue_at c.executors x ≡ []) → made ≡ nat_lt 0 (length (queue_at c.executors x))
+      → (made ≡ false → queue_at c.stations x ≡ []) → made ≡ nat_lt 0 (length (queue_at c.stations x))
   task-enabled c x true runs none =
       let r = (runs refl).1 in
-      let is : queue_at c.executors x ≡ r.envelope ∷ r.after.queue = ap (λ (o : Option StationView). option_map_or (λ (e : StationView). e.queue) o []) r.was ∙ r.front in
-      let some : length (queue_at c.executors x) ≡ suc (length r.after.queue) = ap length is in
-      sym (lt-ltb 0 (length (queue_at c.executors x)) (omega (arith, some)))
+      let is : queue_at c.stations x ≡ r.envelope ∷ r.after.queue = ap (λ (o : Option StationView). option_map_or (λ (e : StationView). e.queue) o []) r.was ∙ r.front in
+      let some : length (queue_at c.stations x) ≡ suc (length r.after.queue) = ap length is in
+      sym (lt-ltb 0 (length (queue_at c.stations x)) (omega (arith, some)))
   task-enabled c x false runs none = sym (ap (λ (q : List Envelope). nat_lt 0 (length q)) (none refl))
 
   -- ---- a hand-over
@@ -124,7 +124,7 @@ module _ {S T : Type 0} (meaning : S → Meaning) (stands_after : S → List Eve
       → (made ≡ true → (after : ℕ → List (Entry (Unit {0}))) × StationsStand (nodes_view meaning) (nodes_stand meaning stands_after state) (world_of false plan) 0 (stations_view stations' after)
       × ((i : ℕ) × (oldest stations.capacity (stations_view stations backlogs) x ≡ Some i) × HandsOver x i (stations_view stations backlogs) (stations_view stations' after)))
       → (made ≡ false → oldest stations.capacity (stations_view stations backlogs) x ≡ None)
-      → (made ≡ false → stations' ≡ stations) → stations'.capacity ≡ stations.capacity → vec_len stations'.executors ≡ vec_len stations.executors
+      → (made ≡ false → stations' ≡ stations) → stations'.capacity ≡ stations.capacity → vec_len stations'.stations ≡ vec_len stations.stations
       → NetStands meaning stands_after state plan backlogs stations
       → (after : ℕ → List (Entry (Unit {0}))) × NetStands meaning stands_after state plan after stations'
       × LeadsTo meaning stands_after is_spent state may_refuse plan.capacity (Hand x) (stations_view stations backlogs) made (stations_view stations' after)
@@ -145,7 +145,7 @@ module _ {S T : Type 0} (meaning : S → Meaning) (stands_after : S → List Eve
 
   -- where a queue could not grow, it stands as it stood
   pub room-goes-on : (stations stations' : Stations (Channels S T)) (plan : Plan) (backlogs : ℕ → List (Entry (Unit {0}))) → IsUnmovedButRoom stations stations'
-      → StationsStand (nodes_view meaning) (nodes_stand meaning stands_after state) (world_of false plan) 0 (stations_view stations' backlogs) → stations'.capacity ≡ stations.capacity → vec_len stations'.executors ≡ vec_len stations.executors
+      → StationsStand (nodes_view meaning) (nodes_stand meaning stands_after state) (world_of false plan) 0 (stations_view stations' backlogs) → stations'.capacity ≡ stations.capacity → vec_len stations'.stations ≡ vec_len stations.stations
       → NetStands meaning stands_after state plan backlogs stations → NetStands meaning stands_after state plan backlogs stations'
   room-goes-on stations stations' plan backlogs same stands capacity count n = goes-on plan backlogs backlogs stations stations' 0 n capacity count (ap (λ (w : OutputsView). w.items) same.work ∙ n.rests) stands
       (subst (λ (ns : Channels S T). PartsKeepPlan state plan ns.parts.items) (sym same.nodes) n.keeps)
@@ -160,12 +160,12 @@ module _ {S T : Type 0} (meaning : S → Meaning) (stands_after : S → List Eve
 
   -- and so is an executor
   pub executor-there : (plan : Plan) (backlogs : ℕ → List (Entry (Unit {0}))) (stations : Stations (Channels S T)) (x : ℕ) → NetStands meaning stands_after state plan backlogs stations
-      → nat_lt x plan.executors ≡ true → x < length stations.executors.items
+      → nat_lt x plan.executors ≡ true → x < length stations.stations.items
   executor-there plan backlogs stations x n there = subst (λ (k : ℕ). x < k) (sym n.executors) (ltb-true x plan.executors there)
 
   -- that of a channel's head is
   home-there : (plan : Plan) (backlogs : ℕ → List (Entry (Unit {0}))) (stations : Stations (Channels S T)) (channel : ℕ) → NetStands meaning stands_after state plan backlogs stations
-      → channel < length stations.nodes.parts.items → home_of stations.nodes.parts.items channel < length stations.executors.items
+      → channel < length stations.nodes.parts.items → home_of stations.nodes.parts.items channel < length stations.stations.items
   home-there plan backlogs stations channel n there =
       let part = at-index stations.nodes.parts.items channel there in
       let p = at-index plan.channels channel (subst (λ (k : ℕ). channel < k) n.keeps.count there) in
@@ -173,14 +173,14 @@ module _ {S T : Type 0} (meaning : S → Meaning) (stands_after : S → List Eve
       let ruled = All-at (IsChannelPlan plan.executors) plan.channels channel p.0 n.ruled.channels p.1 in
       let hop : head_hop part.0 < length p.0.executors = subst (λ (k : ℕ). k < length p.0.executors) (sym keeps.head_at) (let h = ruled.hops in omega (arith, h)) in
       let placed = All-at (λ (x : ℕ). x < plan.executors) p.0.executors (head_hop part.0) (get_or p.0.executors (head_hop part.0) 0) ruled.placed (slice_get-get_or p.0.executors (head_hop part.0) 0 hop) in
-      subst (λ (o : Option (ChannelPartView S T)). option_map_or (λ (q : ChannelPartView S T). executor_at q (head_hop q)) o 0 < length stations.executors.items) (sym part.1)
-      (subst (λ (l : List ℕ). get_or l (head_hop part.0) 0 < length stations.executors.items) (sym keeps.executors) (subst (λ (k : ℕ). get_or p.0.executors (head_hop part.0) 0 < k) (sym n.executors) placed))
+      subst (λ (o : Option (ChannelPartView S T)). option_map_or (λ (q : ChannelPartView S T). executor_at q (head_hop q)) o 0 < length stations.stations.items) (sym part.1)
+      (subst (λ (l : List ℕ). get_or l (head_hop part.0) 0 < length stations.stations.items) (sym keeps.executors) (subst (λ (k : ℕ). get_or p.0.executors (head_hop part.0) 0 < k) (sym n.executors) placed))
 
   -- and so it is where a move names the channel
   pub head-home : (stations seen : Stations (Channels S T)) → stations ≡ seen → (channel : ℕ)
       → ((plan : Plan) (backlogs : ℕ → List (Entry (Unit {0}))) → NetStands meaning stands_after state plan backlogs seen → nat_lt channel (length plan.channels) ≡ true)
-      → (plan : Plan) × (backlogs : ℕ → List (Entry (Unit {0}))) × NetStands meaning stands_after state plan backlogs stations → home_of stations.nodes.parts.items channel < vec_len stations.executors
+      → (plan : Plan) × (backlogs : ℕ → List (Entry (Unit {0}))) × NetStands meaning stands_after state plan backlogs stations → home_of stations.nodes.parts.items channel < vec_len stations.stations
   head-home stations seen view channel named some =
       let named_here = named some.0 some.1 (subst (NetStands meaning stands_after state some.0 some.1) view some.2) in
       let home = home-there some.0 some.1 stations channel some.2 (channel-there some.0 some.1 stations channel some.2 named_here) in
-      let size = stations.executors.ok.0 in omega (arith, home, size)
+      let size = stations.stations.ok.0 in omega (arith, home, size)

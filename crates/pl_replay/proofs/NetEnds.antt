@@ -1,10 +1,13 @@
 -- Each channel of a net has its two ends, and they hold in the world of the plan.
-use Rattle.std.proofs.Common.{◌≡◌, ℕ, List, slice_get, Some, ◌∙◌}
+use Rattle.std.proofs.Common.{◌≡◌, ℕ, false, List, slice_get, Option, Some, sym, ap, ◌∙◌}
 use Rattle.std.specs.Prelude.{All}
+use Rattle.std.specs.Option.{option_map_or}
 use Rattle.pl_event.specs.declared.events.Event.{Event}
 use Rattle.pl_event.specs.Meaning.{Meaning}
 use Rattle.pl_event.proofs.Lists.{All-from-at, some-of}
+use Rattle.pl_context.specs.TailViews.{TailView}
 use Rattle.pl_context.specs.WaitingViews.{Entry}
+use Rattle.pl_head.specs.HeadStand.{HeadView, gone_of}
 use Rattle.pl_head.specs.Transports.{TransportState}
 use Rattle.pl_net.specs.declared.stations.Stations.{Stations}
 use Rattle.pl_part.specs.Parts.{ChannelPartView}
@@ -42,6 +45,8 @@ module _ {S T : Type 0} (meaning : S → Meaning) (stands_after : S → List Eve
             head_holds = head.0;
             head_channel = head.1 ∙ stands.channel;
             head_at = head.2 ∙ keeps.head_at;
+            handed = sym (ap (λ (o : Option TailView). option_map_or (λ (t : TailView). t.handed) o 0) ends.has_tail) ∙ keeps.handed;
+            gone = sym (ap (λ (o : Option (HeadView T)). option_map_or (λ (h : HeadView T). gone_of h) o (0, false)) ends.has_head) ∙ keeps.gone;
           },
           keeps.head ends.head ends.has_head,
         );

@@ -18,7 +18,7 @@ use Rattle.pl_net.specs.Stations.{stations_view}
 use Rattle.pl_net.specs.Nets.{StationView, StationsStand, IsStart, no_backlogs}
 use Rattle.pl_net.specs.declared.stations.Stations.{Stations}
 use Rattle.pl_channel.specs.Lanes.{world_of}
-use Rattle.pl_channel.specs.Placing.{IsWhole, IsAtStart, IsPlaced, ArePlaced}
+use Rattle.pl_channel.specs.WholeParts.{IsWhole, IsAtStart, IsWholePart, AreWholeParts}
 use Rattle.pl_channel.specs.PlanStand.{PartsKeepPlan}
 use Rattle.pl_replay.specs.Views.{channels_view}
 use Rattle.pl_channel.specs.Channels.{ChannelsStand, executor_at, target_of, origin_of, taken_of, came_of, writes_of, writes_here, data_lanes_of}
@@ -29,7 +29,7 @@ use Rattle.pl_replay.specs.Starts.{HasPlannedStages, NetBegins, transports_of}
 use Rattle.pl_replay.specs.declared.channels.Channels.{Channels}
 use Rattle.pl_channel.proofs.LanePlaces.{among-between}
 use Rattle.pl_channel.proofs.OneChannel.{few-sum}
-use Rattle.pl_channel.proofs.PlacedParts.{has-executors, recorded-at, starts-keep, starts-stand}
+use Rattle.pl_channel.proofs.WholeParts.{has-executors, recorded-at, starts-keep, starts-stand}
 use Rattle.pl_world.specs.declared.session.Recorded.{Recorded}
 use Rattle.pl_world.specs.declared.limits.TheConstants.{MAX_CHANNELS}
 use Rattle.pl_world.specs.Plans.{ChannelPlan, Plan, channel_planned, planned as plan_of}
@@ -51,8 +51,8 @@ writer-within part has hop within = ⊎_elim
     (cases_Bool (hop == 0))
 
 module _ {S T : Type 0} (meaning : S → Meaning) (stands_after : S → List Event → Type 0) (state : T → TransportState) (plan : Plan) (rs : List (Recorded S T)) (planned : plan.channels ≡ map (channel_planned meaning state) rs)
-    (parts : List (ChannelPartView S T)) (placed : ArePlaced meaning stands_after state rs parts) (ruled : IsPlan plan) (few : length rs ≤ MAX_CHANNELS) (executors : List StationView) (idle : AreIdle parts plan.executors executors) where
-  recorded : (c : ℕ) (part : ChannelPartView S T) → slice_get parts c ≡ Some part → (r : Recorded S T) × (slice_get rs c ≡ Some r) × (slice_get plan.channels c ≡ Some (channel_planned meaning state r)) × IsPlaced meaning stands_after state c r part
+    (parts : List (ChannelPartView S T)) (placed : AreWholeParts meaning stands_after state rs parts) (ruled : IsPlan plan) (few : length rs ≤ MAX_CHANNELS) (executors : List StationView) (idle : AreIdle parts plan.executors executors) where
+  recorded : (c : ℕ) (part : ChannelPartView S T) → slice_get parts c ≡ Some part → (r : Recorded S T) × (slice_get rs c ≡ Some r) × (slice_get plan.channels c ≡ Some (channel_planned meaning state r)) × IsWholePart meaning stands_after state c r part
   recorded = recorded-at meaning stands_after state plan rs planned parts placed
 
   stand : ChannelsStand (world_of false plan) meaning stands_after state parts
@@ -101,11 +101,11 @@ module _ {S T : Type 0} (meaning : S → Meaning) (stands_after : S → List Eve
   }
 
 module _ {S T : Type 0} (meaning : S → Meaning) (stands_after : S → List Event → Type 0) (state : T → TransportState) (w : WorldView S T) (is : IsWorld meaning state w) (capacity : ℕ) (some : 1 ≤ capacity)
-    (parts : List (ChannelPartView S T)) (placed : ArePlaced meaning stands_after state w.channels parts) (executors : List StationView) (idle : AreIdle parts w.executors executors) where
+    (parts : List (ChannelPartView S T)) (placed : AreWholeParts meaning stands_after state w.channels parts) (executors : List StationView) (idle : AreIdle parts w.executors executors) where
   abbrev pub plan_here : Plan
   plan_here = plan_of meaning state capacity w.executors w.channels
 
-  pub world-begins : (stations : Stations (Channels S T)) → stations.nodes.parts.items ≡ parts → stations.executors.items ≡ executors → stations.capacity ≡ capacity → stations.work.items ≡ []
+  pub world-begins : (stations : Stations (Channels S T)) → stations.nodes.parts.items ≡ parts → stations.stations.items ≡ executors → stations.capacity ≡ capacity → stations.work.items ≡ []
       → stations.work.stopped ≡ no_stops (length (data_lanes_of parts))
       → (ChannelsStand (world_of false plan_here) meaning stands_after state parts → StationsStand (nodes_view meaning) (nodes_stand meaning stands_after state) (world_of false plan_here) 0 (stations_view stations no_backlogs))
       → NetBegins meaning stands_after state plan_here (transports_of w.channels) stations
@@ -123,7 +123,7 @@ module _ {S T : Type 0} (meaning : S → Meaning) (stands_after : S → List Eve
       channels = ap length has-parts ∙ (starts-keep meaning stands_after state plan_here w.channels refl parts placed).count;
       each = λ number p transport part planned has at. each number p transport part planned has (sym (ap (λ (l : List (ChannelPartView S T)). slice_get l number) has-parts) ∙ at);
       executors = ap length has-executors-too ∙ idle.count;
-      start = subst (λ (l : List (ChannelPartView S T)). IsStart (channels_view meaning l) stations.executors.items) (sym has-parts)
+      start = subst (λ (l : List (ChannelPartView S T)). IsStart (channels_view meaning l) stations.stations.items) (sym has-parts)
           (subst (IsStart (channels_view meaning parts)) (sym has-executors-too) (starts meaning stands_after state plan_here w.channels refl parts placed (is.ruled capacity some) is.channels executors idle));
       backlogs = refl;
       work = rests;

@@ -15,7 +15,7 @@ use Rattle.pl_replay.specs.Moves.{LeadsTo, Reaches}
 use Rattle.pl_replay.specs.declared.channels.Channels.{Channels}
 
 module _ {S T : Type 0} (meaning : S → Meaning) (stands_after : S → List Event → Type 0) (is_spent : S → Bool) (state : T → TransportState) (may_refuse : T → ℕ → Type 0) (capacity : ℕ) where
-  reaches-push : (ms : List Move) (c mid : StationsView (Channels S T)) (m : Move) (made : Bool) (end : StationsView (Channels S T)) → Reaches meaning stands_after is_spent state may_refuse capacity ms c mid
+  pub reaches-push : (ms : List Move) (c mid : StationsView (Channels S T)) (m : Move) (made : Bool) (end : StationsView (Channels S T)) → Reaches meaning stands_after is_spent state may_refuse capacity ms c mid
       → LeadsTo meaning stands_after is_spent state may_refuse capacity m mid made end → Reaches meaning stands_after is_spent state may_refuse capacity (ms ++ m ∷ []) c end
   reaches-push [] c mid m made end reached leads = (made, end, subst (λ (t : StationsView (Channels S T)). LeadsTo meaning stands_after is_spent state may_refuse capacity m t made end) reached leads, refl)
   reaches-push (k ∷ ms) c mid m made end reached leads = (reached.0, reached.1, reached.2, reaches-push ms reached.1 mid m made end reached.3 leads)

@@ -17,8 +17,8 @@ module _ {S T : Type 0} (ps : List (ChannelPartView S T)) where
     pub places : map (λ b. b.stopped) e.waiting.targets ≡ map (λ y. no_stops (length (lanes_between ps x y))) (range_with_len 0 count)
 
   -- So many executors at which nothing waits, each with places for the lanes from it to each.
-  pub record AreIdle (so_many : ℕ) (executors : List StationView) : Type 0 where
-    pub count : length executors ≡ so_many
-    pub queues : (y : ℕ) (e : StationView) → slice_get executors y ≡ Some e → (e.queue ≡ []) × Holds e.waiting [] × (e.waiting.added ≡ 0) × (length e.waiting.targets ≡ length executors)
-    pub unstopped : (y z : ℕ) (l : Lane) → has_stopped (stops_at executors y z) l ≡ false
-    pub placed : (y z : ℕ) → y < so_many → z < so_many → HasPlaces (stops_at executors y z) (lanes_between ps y z)
+  pub record AreIdle (so_many : ℕ) (stations : List StationView) : Type 0 where
+    pub count : length stations ≡ so_many
+    pub queues : (y : ℕ) (e : StationView) → slice_get stations y ≡ Some e → (e.queue ≡ []) × Holds e.waiting [] × (e.waiting.added ≡ 0) × (length e.waiting.targets ≡ length stations)
+    pub unstopped : (y z : ℕ) (l : Lane) → has_stopped (stops_at stations y z) l ≡ false
+    pub placed : (y z : ℕ) → y < so_many → z < so_many → HasPlaces (stops_at stations y z) (lanes_between ps y z)

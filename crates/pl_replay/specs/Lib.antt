@@ -4,6 +4,7 @@ pub mod Starts
 pub mod MoveModel
 pub mod Moves
 pub mod NetStand
+pub mod Hindrances
 pub mod Reported
 pub mod Replays
 pub mod Given

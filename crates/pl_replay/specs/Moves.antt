@@ -19,12 +19,12 @@ use Rattle.pl_world.specs.declared.moves.Move.TheVariants.{Read, Task, Hand, Out
 
 -- where the oldest item of an executor's backlog stands whose target has room
 abbrev pub oldest : {N : Type 0} → ℕ → StationsView N → ℕ → Option ℕ
-oldest capacity c x = position (λ entry. has_room c.executors capacity entry.target) (c.backlogs x)
+oldest capacity c x = position (λ entry. has_room c.stations capacity entry.target) (c.backlogs x)
 
 -- Nothing has moved, but for how much memory queues have.
 pub record Rests {N : Type 0} (c c' : StationsView N) : Type 0 where
   pub nodes : c'.nodes ≡ c.nodes
-  pub executors : map waits_of c'.executors ≡ map waits_of c.executors
+  pub stations : map waits_of c'.stations ≡ map waits_of c.stations
   pub backlogs : c'.backlogs ≡ c.backlogs
   pub work : c'.work ≡ c.work
 
@@ -54,7 +54,7 @@ module _ {S T : Type 0} (meaning : S → Meaning) (stands_after : S → List Eve
   -- When a move is enabled, by the move model (FORMATS). Queues hold so many items.
   abbrev pub IsEnabled : ℕ → Move → StationsView (Channels S T) → Bool → Type 0
   IsEnabled capacity (Read channel) c b = MayMove state c.nodes.parts.items head.Read channel b
-  IsEnabled capacity (Task x) c b = b ≡ nat_lt 0 (length (queue_at c.executors x))
+  IsEnabled capacity (Task x) c b = b ≡ nat_lt 0 (length (queue_at c.stations x))
   IsEnabled capacity (Hand x) c b = b ≡ is_some (oldest capacity c x)
   IsEnabled capacity (Out channel) c b = MayMove state c.nodes.parts.items head.Out channel b
 

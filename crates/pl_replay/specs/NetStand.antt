@@ -24,5 +24,5 @@ module _ {S T : Type 0} (meaning : S → Meaning) (stands_after : S → List Eve
     pub stands : StationsStand (nodes_view meaning) (nodes_stand meaning stands_after state) (world_of false plan) 0 (stations_view stations backlogs)
     pub rests : stations.work.items ≡ []
     pub capacity : stations.capacity ≡ plan.capacity
-    pub executors : length stations.executors.items ≡ plan.executors
+    pub executors : length stations.stations.items ≡ plan.executors
     pub keeps : PartsKeepPlan state plan stations.nodes.parts.items

@@ -13,7 +13,7 @@ use Rattle.pl_replay.specs.Views.{channels_view}
 use Rattle.pl_replay.specs.declared.channels.Channels.{Channels}
 use Rattle.pl_channel.specs.Channels.{data_lanes_of}
 use Rattle.pl_channel.specs.Lanes.{world_of}
-use Rattle.pl_channel.specs.Placing.{IsWhole, HasNewStages, IsAtStart}
+use Rattle.pl_channel.specs.WholeParts.{IsWhole, HasNewStages, IsAtStart}
 use Rattle.pl_world.specs.declared.session.Recorded.{Recorded}
 use Rattle.pl_world.specs.Plans.{ChannelPlan, Plan}
 
@@ -36,8 +36,8 @@ module _ {S T : Type 0} (meaning : S → Meaning) (stands_after : S → List Eve
     pub channels : length c.nodes.parts.items ≡ length plan.channels
     pub each : (number : ℕ) (p : ChannelPlan) (transport : T) (part : ChannelPartView S T) → slice_get plan.channels number ≡ Some p → slice_get transports number ≡ Some transport → slice_get c.nodes.parts.items number ≡ Some part
         → IsWhole state number p transport part × HasPlannedStages meaning stands_after number p part × IsAtStart meaning part × PartHolds (world_of false plan) meaning stands_after state part
-    pub executors : length c.executors ≡ plan.executors
-    pub start : IsStart (channels_view meaning c.nodes.parts.items) c.executors
+    pub executors : length c.stations ≡ plan.executors
+    pub start : IsStart (channels_view meaning c.nodes.parts.items) c.stations
     pub backlogs : c.backlogs ≡ no_backlogs
     -- nothing is on the work list, no lane has stopped there, and it has a place for each data lane
     pub work : c.work.items ≡ []

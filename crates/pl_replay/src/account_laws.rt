@@ -31,25 +31,25 @@ pub fn account_law<S: Stage, T: Transport>()
     ensures order { (plan : Plan) (backlogs : ℕ → List (Entry Unit)) (net : Stations (Channels S T)) → NetStands S.meaning S.stands_after T.state plan backlogs net
         → (l : Lane) → writes_of S.meaning net.nodes.parts.items l ≡ true
         → (over : Bool) × IsFlow (world_of false plan) (point (taken_of net.nodes.parts.items l) over)
-        (on l (queue_at net.executors.items (target_of net.nodes.parts.items l)) ++ on l (envelopes (backlogs (origin_of net.nodes.parts.items l)))) }
+        (on l (queue_at net.stations.items (target_of net.nodes.parts.items l)) ++ on l (envelopes (backlogs (origin_of net.nodes.parts.items l)))) }
     ensures all { (plan : Plan) (backlogs : ℕ → List (Entry Unit)) (net : Stations (Channels S T)) → NetStands S.meaning S.stands_after T.state plan backlogs net
         → (l : Lane) → writes_of S.meaning net.nodes.parts.items l ≡ true
-        → has_stopped (stops_at net.executors.items (origin_of net.nodes.parts.items l) (target_of net.nodes.parts.items l)) l ≡ false → has_stopped net.work.stopped l ≡ false
+        → has_stopped (stops_at net.stations.items (origin_of net.nodes.parts.items l) (target_of net.nodes.parts.items l)) l ≡ false → has_stopped net.work.stopped l ≡ false
         → (over : Bool) × (past (point (taken_of net.nodes.parts.items l) over)
-        (on l (queue_at net.executors.items (target_of net.nodes.parts.items l)) ++ on l (envelopes (backlogs (origin_of net.nodes.parts.items l)))) ≡ came_of S.meaning net.nodes.parts.items l) }
+        (on l (queue_at net.stations.items (target_of net.nodes.parts.items l)) ++ on l (envelopes (backlogs (origin_of net.nodes.parts.items l)))) ≡ came_of S.meaning net.nodes.parts.items l) }
     ensures elsewhere { (plan : Plan) (backlogs : ℕ → List (Entry Unit)) (net : Stations (Channels S T)) → NetStands S.meaning S.stands_after T.state plan backlogs net
-        → (y : ℕ) (l : Lane) → ((writes_of S.meaning net.nodes.parts.items l && (target_of net.nodes.parts.items l == y)) ≡ false → on l (queue_at net.executors.items y) ≡ [])
+        → (y : ℕ) (l : Lane) → ((writes_of S.meaning net.nodes.parts.items l && (target_of net.nodes.parts.items l == y)) ≡ false → on l (queue_at net.stations.items y) ≡ [])
         × ((writes_of S.meaning net.nodes.parts.items l && (origin_of net.nodes.parts.items l == y)) ≡ false → on l (envelopes (backlogs y)) ≡ []) }
     // As many of a lane were taken, are queued and wait as it has come to, unless it was cut off; of a lane inside one executor all
     // that was made was taken.
     ensures numbers { (plan : Plan) (backlogs : ℕ → List (Entry Unit)) (net : Stations (Channels S T)) → NetStands S.meaning S.stands_after T.state plan backlogs net
         → (l : Lane) → writes_of S.meaning net.nodes.parts.items l ≡ true
-        → has_stopped (stops_at net.executors.items (origin_of net.nodes.parts.items l) (target_of net.nodes.parts.items l)) l ≡ false → has_stopped net.work.stopped l ≡ false
-        → made_of (channels_view S.meaning net.nodes.parts.items) net.executors.items backlogs l ≡ (came_of S.meaning net.nodes.parts.items l).next }
+        → has_stopped (stops_at net.stations.items (origin_of net.nodes.parts.items l) (target_of net.nodes.parts.items l)) l ≡ false → has_stopped net.work.stopped l ≡ false
+        → made_of (channels_view S.meaning net.nodes.parts.items) net.stations.items backlogs l ≡ (came_of S.meaning net.nodes.parts.items l).next }
     ensures direct { (plan : Plan) (backlogs : ℕ → List (Entry Unit)) (net : Stations (Channels S T)) → NetStands S.meaning S.stands_after T.state plan backlogs net
         → (l : Lane) → writes_of S.meaning net.nodes.parts.items l ≡ true → origin_of net.nodes.parts.items l ≡ target_of net.nodes.parts.items l
-        → (handed_of (channels_view S.meaning net.nodes.parts.items) net.executors.items l ≡ taken_of net.nodes.parts.items l)
-        × (made_of (channels_view S.meaning net.nodes.parts.items) net.executors.items backlogs l ≡ taken_of net.nodes.parts.items l) }
+        → (handed_of (channels_view S.meaning net.nodes.parts.items) net.stations.items l ≡ taken_of net.nodes.parts.items l)
+        × (made_of (channels_view S.meaning net.nodes.parts.items) net.stations.items backlogs l ≡ taken_of net.nodes.parts.items l) }
     // A data lane that a context writes which has not failed has come so far as what its stage makes of the events that it has
     // taken, with the end just where the context has ended or, downwards, its stage has quit.
     ensures given { (plan : Plan) (backlogs : ℕ → List (Entry Unit)) (net : Stations (Channels S T)) → NetStands S.meaning S.stands_after T.state plan backlogs net

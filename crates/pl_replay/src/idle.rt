@@ -11,19 +11,19 @@ use pl_net::Station;
 use pl_part::ChannelPart;
 use std::alloc::{AllocError, Global};
 
-/// Executors at which nothing waits, each with places for the lanes from it to each.
-pub(crate) fn idle_executors<S: Stage, T: Transport>(
+/// The stations of executors at which nothing waits, each with places for the lanes from it to each.
+pub(crate) fn idle_stations<S: Stage, T: Transport>(
     alloc: Global,
     count: usize,
     parts: &[ChannelPart<S, T>],
 ) -> Result<Vec<Station>, AllocError>
     requires { ArePlaceable parts.now }
-    ensures { IfOk result (λ executors. AreIdle parts.now count executors.items) }
+    ensures { IfOk result (λ stations. AreIdle parts.now count stations.items) }
 {
     let table = places_between(alloc, count, parts)?;
-    let mut executors = Vec::with_capacity(alloc, count)?;
+    let mut stations = Vec::with_capacity(alloc, count)?;
     for places in &table {
-        executors.push(Station::new(alloc, places.as_slice())?)?;
+        stations.push(Station::new(alloc, places.as_slice())?)?;
     }
-    Ok(executors)
+    Ok(stations)
 }

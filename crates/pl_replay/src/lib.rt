@@ -10,5 +10,5 @@ mod reporting;
 
 pub use account_laws::account_law;
 pub use channels::Channels;
-pub use nets::Net;
+pub use nets::{Hindrance, Net};
 pub use replaying::{replay, replay_world};

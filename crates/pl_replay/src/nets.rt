@@ -10,21 +10,25 @@ ghost use Rattle.pl_world.specs.declared.faults.ReplayFault.TheVariants as fault
 ghost use Rattle.pl_world.specs.declared.limits.TheConstants.{MAX_CAPACITY};
 ghost use Rattle.pl_world.specs.declared.moves.Move.TheVariants.{Hand};
 ghost use Rattle.pl_world.specs.Plans.{Plan, planned};
-ghost use Rattle.pl_channel.specs.Placing.{ArePlaced};
+ghost use Rattle.pl_channel.specs.WholeParts.{AreWholeParts};
 ghost use Rattle.pl_replay.specs.Starts.{NetBegins, transports_of};
 ghost use Rattle.std.specs.List.{AllZip};
 ghost use Rattle.pl_world.specs.Reports.{AllKeepToPlan, AllReportPlan};
 ghost use Rattle.pl_replay.specs.Reported.{AreDrained, HasEnds, IsPartReport};
 ghost use Rattle.pl_replay.specs.MoveModel.{is_there, is_hand};
 
+mod hindrances;
+mod looking;
+mod watching;
+
 use crate::channels::Channels;
-use crate::idle::idle_executors;
+use crate::idle::idle_stations;
 use crate::reporting::{are_drained, into_reports, reports_of};
-use pl_channel::{lane_count, placed};
+pub use hindrances::Hindrance;
+use pl_channel::{lane_count, whole_parts};
 use pl_event::Stage;
-use pl_flow::HeadMove;
 use pl_head::Transport;
-use pl_net::Stations;
+use pl_net::{NoWatch, Stations};
 use pl_part::ChannelPart;
 use pl_world::{Move, ReplayFault, Report, World};
 use std::alloc::Global;
@@ -61,20 +65,14 @@ impl<S: Stage, T: Transport> Net<S, T> {
     pub fn new(alloc: Global, world: World<S, T>, capacity: u32) -> Result<Self, ReplayFault>
         requires capacity { (1 ≤ capacity) × (capacity ≤ MAX_CAPACITY) }
         ensures begins { IfOk result (λ net. NetBegins S.meaning S.stands_after T.state (planned S.meaning T.state capacity world.executors world.channels) (transports_of world.channels) net) }
-        ensures placed { IfOk result (λ net. ArePlaced S.meaning S.stands_after T.state world.channels net.nodes.parts.items) }
+        ensures whole { IfOk result (λ net. AreWholeParts S.meaning S.stands_after T.state world.channels net.nodes.parts.items) }
         ensures memory { IfErr result (λ e. e ≡ fault.Memory) }
     {
         let count = world.executors() as usize;
-        let parts = placed(alloc, world.into_channels().into_vec())?;
-        let executors = idle_executors(alloc, count, parts.as_slice())?;
+        let parts = whole_parts(alloc, world.into_channels().into_vec())?;
+        let idle = idle_stations(alloc, count, parts.as_slice())?;
         let lanes = lane_count(parts.as_slice());
-        let stations = Stations::new(
-            alloc,
-            capacity as usize,
-            Channels { parts },
-            executors,
-            lanes,
-        )?;
+        let stations = Stations::new(alloc, capacity as usize, Channels { parts }, idle, lanes)?;
         Ok(Net { alloc, stations })
     }
 
@@ -101,15 +99,7 @@ impl<S: Stage, T: Transport> Net<S, T> {
         ensures memory { result ≡ Err fault.Memory → IsUnmovedButRoom self.old self.new }
         ensures goes_on { result ≡ Err fault.Memory → (plan : Plan) (backlogs : ℕ → List (Entry Unit)) → NetStands S.meaning S.stands_after T.state plan backlogs self.old → NetStands S.meaning S.stands_after T.state plan backlogs self.new }
     {
-        if !self.is_there(step) {
-            return Err(ReplayFault::NoSuch);
-        }
-        match step {
-            Move::Read(channel) => Ok(self.stations.move_head(HeadMove::Read, channel as usize)),
-            Move::Task(executor) => Ok(self.stations.run_task(executor as usize)),
-            Move::Hand(executor) => Ok(self.stations.hand(executor as usize)?),
-            Move::Out(channel) => Ok(self.stations.move_head(HeadMove::Out, channel as usize)),
-        }
+        self.apply_watched(step, &mut NoWatch)
     }
 
     /// Whether the channel or the executor of a move is there.
@@ -174,10 +164,8 @@ impl<S: Stage, T: Transport> Net<S, T> {
         ensures { MatchOption result (length self.now.nodes.parts.items ≤ channel)
             (λ flags. (part : ChannelPartView S T) × (tail : TailView) × (slice_get self.now.nodes.parts.items channel ≡ Some part) × (part.path.tail ≡ Some tail) × (flags.now ≡ tail.flags)) }
     {
-        match self.parts().get(channel as usize)?.tail() {
-            Some(tail) => Some(tail.flags()),
-            None => unreachable!(),
-        }
+        let tail = self.tail(channel)?;
+        Some(tail.flags())
     }
 
     /// The channels. Each has its tail and its head.

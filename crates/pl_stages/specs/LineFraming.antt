@@ -8,28 +8,28 @@ use Rattle.pl_event.specs.declared.events.Caught.TheVariants.{TooLong}
 use Rattle.pl_event.specs.Meaning.{Meaning}
 use Rattle.pl_stages.specs.Cutting.{cutting}
 
--- a byte before the first of these parts, if there is one
-abbrev pub onto_first_part : ℕ → List (List ℕ) → List (List ℕ)
-onto_first_part b [] = []
-onto_first_part b (part ∷ parts) = (b ∷ part) ∷ parts
+-- a byte before the first of these segments, if there is one
+abbrev pub onto_first_segment : ℕ → List (List ℕ) → List (List ℕ)
+onto_first_segment b [] = []
+onto_first_segment b (segment ∷ segments) = (b ∷ segment) ∷ segments
 
--- The parts of these bytes that line feeds close. A line feed is byte 10, and no part has it.
-abbrev pub closed_parts : List ℕ → List (List ℕ)
-closed_parts [] = []
-closed_parts (b ∷ bs) = if b == 10 then [] ∷ closed_parts bs else onto_first_part b (closed_parts bs)
+-- The segments of these bytes that line feeds close. A line feed is byte 10, and no segment has it.
+abbrev pub closed_segments : List ℕ → List (List ℕ)
+closed_segments [] = []
+closed_segments (b ∷ bs) = if b == 10 then [] ∷ closed_segments bs else onto_first_segment b (closed_segments bs)
 
--- a part without the carriage return (byte 13) at its end, if there is one
+-- a segment without the carriage return (byte 13) at its end, if there is one
 abbrev pub without_return : List ℕ → List ℕ
-without_return part = if slice_index part (length part - 1) == 13 then take (length part - 1) part else part
+without_return segment = if slice_index segment (length segment - 1) == 13 then take (length segment - 1) segment else segment
 
--- what a closed part is read as
+-- what a closed segment is read as
 abbrev pub framed : ℕ → List ℕ → Event
-framed max part =
-    if nat_le (length (without_return part)) max then Read (Line (without_return part)) else Caught TooLong
+framed max segment =
+    if nat_le (length (without_return segment)) max then Read (Line (without_return segment)) else Caught TooLong
 
 -- the lines of a stream of bytes
 abbrev pub lines_of : ℕ → List ℕ → List Event
-lines_of max bytes = map (framed max) (closed_parts bytes)
+lines_of max bytes = map (framed max) (closed_segments bytes)
 
 -- the framing of lines of at most max bytes (LineBasedFrameDecoder, framing_law)
 abbrev pub line_framing : ℕ → Meaning
@@ -38,23 +38,23 @@ line_framing max = cutting (lines_of max)
 -- the second list where the first is empty, and else the third
 abbrev pub unless_closed : List (List ℕ) → List ℕ → List ℕ → List ℕ
 unless_closed [] whole rest = whole
-unless_closed (part ∷ parts) whole rest = rest
+unless_closed (segment ∷ segments) whole rest = rest
 
 -- what of these bytes no line feed has closed yet
-abbrev pub open_part : List ℕ → List ℕ
-open_part [] = []
-open_part (b ∷ bs) = unless_closed (closed_parts (b ∷ bs)) (b ∷ bs) (open_part bs)
+abbrev pub open_segment : List ℕ → List ℕ
+open_segment [] = []
+open_segment (b ∷ bs) = unless_closed (closed_segments (b ∷ bs)) (b ∷ bs) (open_segment bs)
 
--- A framer keeps the open part, or only that it is too long with and without a carriage return at its end.
-abbrev pub KeepsPart : ℕ → List ℕ → Bool → List ℕ → Type 0
-KeepsPart max partial is_overlong part = MatchBool is_overlong (max + 1 < length part) (partial ≡ part)
+-- A framer keeps the open segment, or only that it is too long with and without a carriage return at its end.
+abbrev pub KeepsSegment : ℕ → List ℕ → Bool → List ℕ → Type 0
+KeepsSegment max partial is_overlong segment = MatchBool is_overlong (max + 1 < length segment) (partial ≡ segment)
 
--- Where a framer kept the open part, it keeps that of these bytes after it,
+-- Where a framer kept the open segment, it keeps that of these bytes after it,
 abbrev pub KeepsAfter : ℕ → List ℕ → Bool → List ℕ → List ℕ → Bool → Type 0
 KeepsAfter max partial is_overlong bytes partial' is_overlong' =
-    (part : List ℕ) → closed_parts part ≡ [] → KeepsPart max partial is_overlong part → KeepsPart max partial' is_overlong' (open_part (part ++ bytes))
+    (segment : List ℕ) → closed_segments segment ≡ [] → KeepsSegment max partial is_overlong segment → KeepsSegment max partial' is_overlong' (open_segment (segment ++ bytes))
 
 -- and the lines that they close come after these events.
 abbrev pub AddsLines : ℕ → List ℕ → Bool → List ℕ → List Event → List Event → Type 0
 AddsLines max partial is_overlong bytes before after =
-    (part : List ℕ) → closed_parts part ≡ [] → KeepsPart max partial is_overlong part → after ≡ before ++ lines_of max (part ++ bytes)
+    (segment : List ℕ) → closed_segments segment ≡ [] → KeepsSegment max partial is_overlong segment → after ≡ before ++ lines_of max (segment ++ bytes)

@@ -15,7 +15,7 @@ use Rattle.pl_event.specs.Meaning.{Meaning, made_after}
 use Rattle.pl_event.specs.Mappings.{mapping_up, mapping_down}
 use Rattle.pl_stages.specs.Counts.{IsThrifty, event_weight, weight}
 use Rattle.pl_stages.specs.Cutting.{cutting, cutting_up, joined}
-use Rattle.pl_stages.specs.LineFraming.{line_framing, onto_first_part, closed_parts, lines_of, framed, without_return}
+use Rattle.pl_stages.specs.LineFraming.{line_framing, onto_first_segment, closed_segments, lines_of, framed, without_return}
 use Rattle.pl_stages.specs.LengthFraming.{length_framing, is_width, payload_len, frame_start, is_too_long, given_at, frame_event, given_frame, given_frames, frames_of}
 use Rattle.pl_stages.specs.LengthSteps.{open_start}
 use Rattle.pl_stages.specs.LengthPrepending.{length_prepending, with_length}
@@ -78,30 +78,30 @@ mapping_up-thrifty f each = passing_up-thrifty (λ xs x. f x ∷ []) (λ before 
 pub mapping_down-thrifty : (f : Event → Event) → IsThrifty (mapping_down f)
 mapping_down-thrifty f = passing_down-thrifty (λ xs x. f x ∷ []) (λ before x. omega arith)
 
-part_more : (is_feed : Bool) (b : ℕ) (parts more : List (List ℕ)) (n : ℕ) → length more ≤ length parts + n
-    → length (if is_feed then [] ∷ more else onto_first_part b more) ≤ length (if is_feed then [] ∷ parts else onto_first_part b parts) + n
-part_more true b parts more n h = omega arith
-part_more false b [] [] n h = omega arith
-part_more false b [] (m ∷ more) n h = omega arith
-part_more false b (p ∷ parts) [] n h = omega arith
-part_more false b (p ∷ parts) (m ∷ more) n h = omega arith
+segment_more : (is_feed : Bool) (b : ℕ) (parts more : List (List ℕ)) (n : ℕ) → length more ≤ length parts + n
+    → length (if is_feed then [] ∷ more else onto_first_segment b more) ≤ length (if is_feed then [] ∷ parts else onto_first_segment b parts) + n
+segment_more true b parts more n h = omega arith
+segment_more false b [] [] n h = omega arith
+segment_more false b [] (m ∷ more) n h = omega arith
+segment_more false b (p ∷ parts) [] n h = omega arith
+segment_more false b (p ∷ parts) (m ∷ more) n h = omega arith
 
-part_first : (is_feed : Bool) (b : ℕ) (parts : List (List ℕ)) (n : ℕ) → length parts ≤ n
-    → length (if is_feed then [] ∷ parts else onto_first_part b parts) ≤ n + 1
-part_first true b parts n h = omega arith
-part_first false b [] n h = omega arith
-part_first false b (p ∷ parts) n h = omega arith
+segment_first : (is_feed : Bool) (b : ℕ) (parts : List (List ℕ)) (n : ℕ) → length parts ≤ n
+    → length (if is_feed then [] ∷ parts else onto_first_segment b parts) ≤ n + 1
+segment_first true b parts n h = omega arith
+segment_first false b [] n h = omega arith
+segment_first false b (p ∷ parts) n h = omega arith
 
-length-closed_parts-le : (bytes : List ℕ) → length (closed_parts bytes) ≤ length bytes
-length-closed_parts-le [] = omega arith
-length-closed_parts-le (b ∷ bs) =
-    let h = part_first (b == 10) b (closed_parts bs) (length bs) (length-closed_parts-le bs) in omega (arith, h)
+length-closed_segments-le : (bytes : List ℕ) → length (closed_segments bytes) ≤ length bytes
+length-closed_segments-le [] = omega arith
+length-closed_segments-le (b ∷ bs) =
+    let h = segment_first (b == 10) b (closed_segments bs) (length bs) (length-closed_segments-le bs) in omega (arith, h)
 
--- each byte more closes at most one part
-length-closed_parts-append-le : (xs ys : List ℕ) → length (closed_parts (xs ++ ys)) ≤ length (closed_parts xs) + length ys
-length-closed_parts-append-le [] ys = let h = length-closed_parts-le ys in omega (arith, h)
-length-closed_parts-append-le (b ∷ bs) ys =
-    part_more (b == 10) b (closed_parts bs) (closed_parts (bs ++ ys)) (length ys) (length-closed_parts-append-le bs ys)
+-- each byte more closes at most one segment
+length-closed_segments-append-le : (xs ys : List ℕ) → length (closed_segments (xs ++ ys)) ≤ length (closed_segments xs) + length ys
+length-closed_segments-append-le [] ys = let h = length-closed_segments-le ys in omega (arith, h)
+length-closed_segments-append-le (b ∷ bs) ys =
+    segment_more (b == 10) b (closed_segments bs) (closed_segments (bs ++ ys)) (length ys) (length-closed_segments-append-le bs ys)
 
 -- a line weighs one
 framed_weight : (fits : Bool) (line : List ℕ) → event_weight (if fits then Read (Line line) else Caught TooLong) ≤ 1
@@ -120,13 +120,13 @@ lines_weight max (part ∷ parts) =
 
 lines_more : (max : ℕ) (xs ys : List ℕ) → weight (drop (length (lines_of max xs)) (lines_of max (xs ++ ys))) ≤ length ys
 lines_more max xs ys =
-    let fewer = length-closed_parts-append-le xs ys in
+    let fewer = length-closed_segments-append-le xs ys in
     let n = length (lines_of max xs) in
-    let lines = length-map (closed_parts xs) (framed max) in
-    let later = drop n (closed_parts (xs ++ ys)) in
+    let lines = length-map (closed_segments xs) (framed max) in
+    let later = drop n (closed_segments (xs ++ ys)) in
     let light = lines_weight max later in
-    let same = ap weight (drop-map (framed max) n (closed_parts (xs ++ ys))) in
-    omega (arith, fewer, lines, light, same, length-drop n (closed_parts (xs ++ ys)))
+    let same = ap weight (drop-map (framed max) n (closed_segments (xs ++ ys))) in
+    omega (arith, fewer, lines, light, same, length-drop n (closed_segments (xs ++ ys)))
 
 cut_more : (items : List ℕ → List Event)
     → ((xs ys : List ℕ) → weight (drop (length (items xs)) (items (xs ++ ys))) ≤ length ys)

@@ -15,7 +15,7 @@ ghost use Rattle.pl_event.specs.Keys.{is_key};
 ghost use Rattle.pl_event.specs.Meaning.{up_of, down_of};
 ghost use Rattle.pl_stages.specs.declared.handlers.Handler.{Handler};
 ghost use Rattle.pl_stages.specs.Cutting.{joined};
-ghost use Rattle.pl_stages.specs.LineFraming.{line_framing, closed_parts, open_part};
+ghost use Rattle.pl_stages.specs.LineFraming.{line_framing, closed_segments, open_segment};
 ghost use Rattle.pl_stages.specs.LengthFraming.{is_width, frames_of, length_framing};
 ghost use Rattle.pl_stages.specs.LengthPrepending.{prefixed, length_prepending};
 ghost use Rattle.pl_stages.specs.Numbers.{number_in};
@@ -70,9 +70,9 @@ pub fn service_law()
         → count_by (bytes_eq key) (held_keys additions) ≡ (if is_held key additions then 1 else 0) }
 {}
 
-/// The parts that line feeds close, and the open part after them, are what a split at each line feed gives.
+/// The segments that line feeds close, and the open one after them, are what a split at each line feed gives.
 pub fn framing_law()
-    ensures { (bytes : List ℕ) → slice_split (λ b. b == 10) bytes ≡ closed_parts bytes ++ open_part bytes ∷ [] }
+    ensures { (bytes : List ℕ) → slice_split (λ b. b == 10) bytes ≡ closed_segments bytes ++ open_segment bytes ∷ [] }
 {}
 
 /// The frames of a stream, by what it begins with: a whole frame, one that is too long, an unfinished field or payload. How

@@ -5,7 +5,7 @@ ghost use Rattle.pl_event.specs.Meaning.{IsPrefixOf};
 ghost use Rattle.pl_stages.specs.declared.limits.TheConstants.{MAX_LINE};
 ghost use Rattle.pl_event.specs.declared.events.Event.{Event};
 ghost use Rattle.pl_stages.specs.Cutting.{joined, cutting-lawful};
-ghost use Rattle.pl_stages.specs.LineFraming.{line_framing, lines_of, framed, without_return, open_part, AddsLines, KeepsAfter, KeepsPart};
+ghost use Rattle.pl_stages.specs.LineFraming.{line_framing, lines_of, framed, without_return, open_segment, AddsLines, KeepsAfter, KeepsSegment};
 
 use crate::limits::MAX_LINE;
 use crate::stage_refusal::StageRefusal;
@@ -60,9 +60,9 @@ impl LineFramer {
     {
         match memchr(LINE_FEED, chunk.as_slice()) {
             Some(end) if end + 1 == chunk.len() && self.keeps_nothing() => {
-                let mut part = chunk;
-                part.truncate(end);
-                up.push(framed(self.max, part))?;
+                let mut segment = chunk;
+                segment.truncate(end);
+                up.push(framed(self.max, segment))?;
                 Ok(())
             }
             None if chunk.len() <= self.max + 1 && self.keeps_nothing() => {
@@ -96,20 +96,20 @@ impl LineFramer {
         self.keep(rest)
     }
 
-    /// A line feed after these bytes makes a line of the open part and of them. The next part is empty. Where nothing
+    /// A line feed after these bytes makes a line of the open segment and of them. The next segment is empty. Where nothing
     /// is kept, the line is made of the bytes at once.
     fn close(&mut self, bytes: &[u8], up: &mut Vec<Event>) -> Result<(), AllocError>
         ensures max { self.new.max ≡ self.old.max }
-        ensures empty { OnOk result (KeepsPart self.old.max self.new.partial self.new.is_overlong []) }
-        ensures line { OnOk result ((part : List ℕ)
-            → KeepsPart self.old.max self.old.partial self.old.is_overlong part
-            → up.new.items ≡ up.old.items ++ framed self.old.max (part ++ bytes.now) ∷ []) }
+        ensures empty { OnOk result (KeepsSegment self.old.max self.new.partial self.new.is_overlong []) }
+        ensures line { OnOk result ((segment : List ℕ)
+            → KeepsSegment self.old.max self.old.partial self.old.is_overlong segment
+            → up.new.items ≡ up.old.items ++ framed self.old.max (segment ++ bytes.now) ∷ []) }
         ensures begins { IsPrefixOf up.old.items up.new.items }
     {
         up.reserve(1)?;
         if self.keeps_nothing() && bytes.len() <= self.max + 1 {
-            let part = ByteString::from_slice(*up.allocator(), bytes)?;
-            up.push_reserved(framed(self.max, part));
+            let segment = ByteString::from_slice(*up.allocator(), bytes)?;
+            up.push_reserved(framed(self.max, segment));
             return Ok(());
         }
         self.keep(bytes)?;
@@ -118,12 +118,12 @@ impl LineFramer {
         Ok(())
     }
 
-    /// Keeps more bytes of the open part.
+    /// Keeps more bytes of the open segment.
     fn keep(&mut self, bytes: &[u8]) -> Result<(), AllocError>
         ensures max { self.new.max ≡ self.old.max }
-        ensures kept { OnOk result ((part : List ℕ)
-            → KeepsPart self.old.max self.old.partial self.old.is_overlong part
-            → KeepsPart self.old.max self.new.partial self.new.is_overlong (part ++ bytes.now)) }
+        ensures kept { OnOk result ((segment : List ℕ)
+            → KeepsSegment self.old.max self.old.partial self.old.is_overlong segment
+            → KeepsSegment self.old.max self.new.partial self.new.is_overlong (segment ++ bytes.now)) }
     {
         if self.is_overlong {
             return Ok(());
@@ -136,26 +136,26 @@ impl LineFramer {
         self.partial.extend_from_slice(bytes)
     }
 
-    /// The line that the part kept so far makes. The next part is empty.
+    /// The line that the segment kept so far makes. The next segment is empty.
     fn take_line(&mut self, alloc: Global) -> Event
         ensures max { self.new.max ≡ self.old.max }
-        ensures line { (part : List ℕ) → KeepsPart self.old.max self.old.partial self.old.is_overlong part
-            → result ≡ framed self.old.max part }
-        ensures empty { KeepsPart self.old.max self.new.partial self.new.is_overlong [] }
+        ensures line { (segment : List ℕ) → KeepsSegment self.old.max self.old.partial self.old.is_overlong segment
+            → result ≡ framed self.old.max segment }
+        ensures empty { KeepsSegment self.old.max self.new.partial self.new.is_overlong [] }
     {
-        let part = mem::replace(&mut self.partial, ByteString::from_vec(Vec::new(alloc)));
+        let segment = mem::replace(&mut self.partial, ByteString::from_vec(Vec::new(alloc)));
         if mem::replace(&mut self.is_overlong, false) {
             return Event::Caught(Caught::TooLong);
         }
-        framed(self.max, part)
+        framed(self.max, segment)
     }
 }
 
-/// What a closed part is read as.
-fn framed(max: usize, part: ByteString) -> Event
-    ensures { result ≡ framed max part }
+/// What a closed segment is read as.
+fn framed(max: usize, segment: ByteString) -> Event
+    ensures { result ≡ framed max segment }
 {
-    let line = without_return(part);
+    let line = without_return(segment);
     if line.len() <= max {
         Event::Read(Message::Line(line))
     } else {
@@ -163,20 +163,20 @@ fn framed(max: usize, part: ByteString) -> Event
     }
 }
 
-/// A part without the carriage return at its end.
-fn without_return(mut part: ByteString) -> ByteString
-    ensures { result ≡ without_return part }
+/// A segment without the carriage return at its end.
+fn without_return(mut segment: ByteString) -> ByteString
+    ensures { result ≡ without_return segment }
 {
-    if part.as_slice().last() == Some(&CARRIAGE_RETURN) {
-        part.truncate(part.len() - 1);
+    if segment.as_slice().last() == Some(&CARRIAGE_RETURN) {
+        segment.truncate(segment.len() - 1);
     }
-    part
+    segment
 }
 
 impl BareStage for LineFramer {
     ghost meaning = { λ s. line_framing s.max };
 
-    ghost stands_after = { λ s xs. KeepsPart s.max s.partial s.is_overlong (open_part (joined xs)) };
+    ghost stands_after = { λ s xs. KeepsSegment s.max s.partial s.is_overlong (open_segment (joined xs)) };
 
     fn direction(&self) -> Direction {
         Direction::Inbound

@@ -3,7 +3,8 @@ pub mod SessionMembers
 pub mod HexTexts
 pub mod MovesNumbers
 pub mod MovesUnique
-pub mod MovesWords
+pub mod MovesTerms
+pub mod MovesPrinted
 pub mod MeantPipelines
 pub mod SessionLimitLaws
 pub mod EditSteps

@@ -6,7 +6,7 @@ use Rattle.std.proofs.lemmas.Str.Pattern.{IsSplitOnceResult, split_after, split_
 use Rattle.std.proofs.lemmas.List.{append-nil, length-append}
 use Rattle.std.proofs.Math.Seq.{get_or-append_seam}
 use denote.Ref.{Bor}
-use Rattle.pl_text.specs.declared.moves_text.words.TheConstants.{MAX_COUNT}
+use Rattle.pl_text.specs.declared.moves_text.terms.TheConstants.{MAX_COUNT}
 use Rattle.pl_text.specs.MovesTexts.{AreInRange, count_text}
 
 -- no digit is an x

@@ -1,12 +1,12 @@
--- A text says one list of words only.
+-- A text says one list of terms only.
 use Rattle.std.proofs.Common.{◌≡◌, ◌≢◌, ℕ, suc, ◌<◌, List, [], ◌∷◌, ◌++◌, length, get_or, map, decimal, Option, Some, None, refl, sym, ap, ◌∙◌, arith}
 use Rattle.std.specs.List.{AllByRecursion}
 use Rattle.std.proofs.lemmas.Fmt.{decimal_injective}
 use Rattle.std.proofs.lemmas.List.{append-nil}
 use Rattle.pl_world.specs.declared.moves.Move.{Move}
 use Rattle.pl_world.specs.declared.moves.Move.TheVariants.{Read, Task, Hand, Out}
-use Rattle.pl_text.specs.declared.moves_text.words.Word.{Word}
-use Rattle.pl_text.specs.MovesTexts.{AreInRange, IsWordWithin, Says, count_text, move_text, moves_of_words, number_of, moves_said, word_text}
+use Rattle.pl_text.specs.declared.moves_text.terms.Term.{Term}
+use Rattle.pl_text.specs.MovesTexts.{AreInRange, IsTermWithin, Says, count_text, move_text, moves_of_terms, number_of, moves_said, term_text}
 use Rattle.pl_text.proofs.MovesNumbers.{decimal_lacks_x, lacks_seam}
 
 -- no element is an x
@@ -41,7 +41,7 @@ numbers_once m n (Some j) (Some k) p q e =
     let s = parts_at_x (decimal m) (decimal n) (decimal j) (decimal k) (decimal_lacks_x m (omega (arith, p.number_fits))) (decimal_lacks_x n (omega (arith, q.number_fits))) e in
     (decimal_injective m n (omega (arith, p.number_fits)) (omega (arith, q.number_fits)) s.0, ap (λ (x : ℕ). Some x) (decimal_injective j k (omega (arith, p.count_fits)) (omega (arith, q.count_fits)) s.1))
 
--- a text says at most one word
+-- a text says at most one term
 step_once : (s t : Move) (a b : Option ℕ) → AreInRange (number_of s) a → AreInRange (number_of t) b → move_text s ++ count_text a ≡ move_text t ++ count_text b → (s ≡ t) × (a ≡ b)
 step_once (Read m) (Read n) a b p q e =
     let once = numbers_once m n a b p q (tail_is 82 82 _ _ e) in (ap (λ (x : ℕ). Read x) once.0, once.1)
@@ -53,30 +53,30 @@ step_once (Out m) (Out n) a b p q e =
     let once = numbers_once m n a b p q (tail_is 79 79 _ _ e) in (ap (λ (x : ℕ). Out x) once.0, once.1)
 step_once _ _ a b p q e = absurd (omega (arith, head_is _ _ _ _ e))
 
-word_once : (w v : Word) → IsWordWithin w → IsWordWithin v → word_text w ≡ word_text v → w ≡ v
-word_once w v p q e =
+term_once : (w v : Term) → IsTermWithin w → IsTermWithin v → term_text w ≡ term_text v → w ≡ v
+term_once w v p q e =
     let once = step_once w.step v.step w.count v.count p q e in
-    let stepped : Move → Word = λ s. record { step = s; count = w.count } in
-    let counted : Option ℕ → Word = λ a. record { step = v.step; count = a } in
+    let stepped : Move → Term = λ s. record { step = s; count = w.count } in
+    let counted : Option ℕ → Term = λ a. record { step = v.step; count = a } in
     ap stepped once.0 ∙ ap counted once.1
 
 heads : (c d : List ℕ) (cs ds : List (List ℕ)) → c ∷ cs ≡ d ∷ ds → (c ≡ d) × (cs ≡ ds)
 heads c d cs ds e = (cc, cc)
 
-words_once : (ws vs : List Word) → AllByRecursion IsWordWithin ws → AllByRecursion IsWordWithin vs → map word_text ws ≡ map word_text vs → ws ≡ vs
-words_once [] [] p q e = refl
-words_once [] (v ∷ vs) p q e = cc
-words_once (w ∷ ws) [] p q e = cc
-words_once (w ∷ ws) (v ∷ vs) p q e =
-    let both = heads (word_text w) (word_text v) (map word_text ws) (map word_text vs) e in
-    ap (λ (x : Word). x ∷ ws) (word_once w v p.0 q.0 both.0) ∙ ap (λ (l : List Word). v ∷ l) (words_once ws vs p.1 q.1 both.1)
+terms_once : (ws vs : List Term) → AllByRecursion IsTermWithin ws → AllByRecursion IsTermWithin vs → map term_text ws ≡ map term_text vs → ws ≡ vs
+terms_once [] [] p q e = refl
+terms_once [] (v ∷ vs) p q e = cc
+terms_once (w ∷ ws) [] p q e = cc
+terms_once (w ∷ ws) (v ∷ vs) p q e =
+    let both = heads (term_text w) (term_text v) (map term_text ws) (map term_text vs) e in
+    ap (λ (x : Term). x ∷ ws) (term_once w v p.0 q.0 both.0) ∙ ap (λ (l : List Term). v ∷ l) (terms_once ws vs p.1 q.1 both.1)
 
-says_once : (text : List ℕ) (ws vs : List Word) → Says text ws → Says text vs → ws ≡ vs
-says_once text ws vs p q = words_once ws vs p.fit q.fit (sym p.parts_are ∙ q.parts_are)
+says_once : (text : List ℕ) (ws vs : List Term) → Says text ws → Says text vs → ws ≡ vs
+says_once text ws vs p q = terms_once ws vs p.fit q.fit (sym p.texts_are ∙ q.texts_are)
 
--- so all words that a text says make the same moves
-pub moves_once : (text : List ℕ) (ws vs : List Word) → Says text ws → Says text vs → moves_of_words ws ≡ moves_of_words vs
-moves_once text ws vs p q = ap moves_of_words (says_once text ws vs p q)
+-- so all terms that a text says make the same moves
+pub moves_once : (text : List ℕ) (ws vs : List Term) → Says text ws → Says text vs → moves_of_terms ws ≡ moves_of_terms vs
+moves_once text ws vs p q = ap moves_of_terms (says_once text ws vs p q)
 
-pub total_once : (text : List ℕ) (ws vs : List Word) → Says text ws → Says text vs → moves_said ws ≡ moves_said vs
+pub total_once : (text : List ℕ) (ws vs : List Term) → Says text ws → Says text vs → moves_said ws ≡ moves_said vs
 total_once text ws vs p q = ap moves_said (says_once text ws vs p q)

@@ -31,6 +31,7 @@ cause_text cause.Transport = codes "Transport"
 cause_text cause.Aborted = codes "Aborted"
 cause_text cause.Refused = codes "Refused"
 
+-- how a channel stands, in words (FORMATS)
 abbrev pub stands_text : Stands → List ℕ
 stands_text Drained = codes "drained"
 stands_text Open = codes "open"
@@ -62,6 +63,7 @@ message_text (message.Line b) = codes "Line " ++ hex_text b
 message_text (message.Command c) = command_text c
 message_text (message.Reply r) = codes "Reply " ++ hex_text (reply_text r)
 
+-- an event, as a line of the tail has it (FORMATS)
 abbrev pub event_text : Event → List ℕ
 event_text event.Active = codes "Active"
 event_text event.ReadComplete = codes "ReadComplete"

@@ -57,10 +57,10 @@ impl From<AllocError> for SessionFault {
 /// Why a text of moves was not read. No move is answered then.
 #[derive(Clone, Copy, Debug, PartialEq, Eq, Error)]
 pub enum MovesFault {
-    /// A part of the text is not a word.
+    /// What stands between spaces is not a term.
     #[error("1 Form")]
     Form,
-    /// The words say more moves than `MAX_MOVES`.
+    /// The terms say more moves than `MAX_MOVES`.
     #[error("2 Limit")]
     Limit,
     /// An allocation failed.

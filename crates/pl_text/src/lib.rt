@@ -7,6 +7,9 @@ mod report_text;
 mod session_text;
 
 pub use faults::{MovesFault, PrintFault, SessionFault};
-pub use moves_text::{MAX_MOVES, read_moves};
-pub use report_text::print_report;
-pub use session_text::{MAX_SESSION_TEXT, read_session};
+pub use moves_text::{MAX_MOVES, MoveTerm, moves_as_text, read_moves};
+pub use report_text::{add_event, add_hex, print_report, stands_text};
+pub use session_text::{
+    MAX_EDITS, MAX_FAIL_AT, MAX_GROUP_SIZE, MAX_SESSION_TEXT, MAX_USER_EVENT, MAX_WINDOW,
+    read_session,
+};

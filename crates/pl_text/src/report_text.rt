@@ -10,6 +10,8 @@ mod events;
 
 use crate::faults::PrintFault;
 use channels::add_channel;
+pub use channels::stands_text;
+pub use events::{add_event, add_hex};
 use pl_world::Report;
 use std::alloc::{AllocError, Global};
 use std::io::Write;

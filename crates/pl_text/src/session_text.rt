@@ -23,7 +23,9 @@ mod version;
 use crate::faults::SessionFault;
 use crate::session_text::building::session_built;
 use crate::session_text::tables::outline_in;
-pub use limits::MAX_SESSION_TEXT;
+pub use limits::{
+    MAX_EDITS, MAX_FAIL_AT, MAX_GROUP_SIZE, MAX_SESSION_TEXT, MAX_USER_EVENT, MAX_WINDOW,
+};
 use pl_event::Stage;
 use pl_head::{MemoryTransport, Transport};
 use pl_stages::Handler;

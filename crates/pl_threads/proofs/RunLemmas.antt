@@ -1,5 +1,5 @@
 -- An executor's work list, step by step.
-use Rattle.std.proofs.Common.{◌≡◌, ◌≢◌, ℕ, ◌+◌, ◌<◌, Bool, true, false, ◌&&◌, ◌==◌, List, [], ◌∷◌, ◌++◌, length, Some, refl, ap, sym, ◌∙◌, subst, ⊎_elim, arith}
+use Rattle.std.proofs.Common.{◌≡◌, ◌≢◌, ℕ, ◌+◌, ◌-◌, ◌<◌, ◌^◌, Bool, true, false, ◌&&◌, ◌==◌, List, [], ◌∷◌, ◌++◌, length, get_or, Some, refl, ap, sym, ◌∙◌, subst, ⊎_elim, arith}
 use Rattle.std.specs.Option.{option_map_or}
 use Rattle.std.proofs.lemmas.Bool.{cond-true, cond-false, cases_Bool, both_ways, eq-eqb, cases_eq, and_right}
 use Rattle.std.proofs.lemmas.Option.{same_Some}
@@ -25,21 +25,25 @@ use Rattle.pl_flow.specs.LanesViews.{LanesView, SameRoutes, KeepsPlaces, taken_w
 use Rattle.pl_flow.proofs.FlowLemmas.{on-append, on-own, on-other}
 use Rattle.pl_flow.proofs.LaneRunLemmas.{lane-grows, lane-leaves, lane-behind}
 use Rattle.pl_outbox.specs.Admitting.{AdmitsOnce}
-use Rattle.pl_outbox.specs.OutboxViews.{OutboxesView, reached, is_cut, Adds, SomeClosed, Stays}
+use Rattle.pl_outbox.specs.OutboxViews.{OutboxesView, way_to, reached, is_cut, Adds, SomeClosed, Stays}
 use Rattle.pl_outbox.proofs.AdmissionLemmas.{admits_on, admits_more}
 use Rattle.pl_threads.specs.declared.cores.Core.{Core}
 use Rattle.pl_threads.specs.Cores.{CoreHolds}
 use Rattle.pl_threads.specs.NodesViews.{OwnNodesView, NodesKeep, LanesMake, TakesOwn}
 use Rattle.pl_threads.specs.Running.{RunsOn, IsTaking}
 
+-- the ways are the same
+ways-same : (o o' : OutboxesView) (executor : ℕ) → o'.ways ≡ o.ways → way_to o executor ≡ way_to o' executor
+ways-same o o' executor same = ap (λ (ways : List ℕ). get_or ways executor (2 ^ 16 - 1)) (sym same)
+
 -- Nothing is on the list, and nothing was sent or waits: what was made has gone on.
 pub runs-start : (world : World) (me : ℕ) (v : LanesView) (o : OutboxesView) (work : OutputsView) → work.items ≡ []
-    → ((l : Lane) → v.target l ≡ me → v.written l ≡ true → (over : Bool) × (v.came l ≡ point (v.taken l) over)) → ((l : Lane) → v.target l ≢ me → v.written l ≡ true → v.came l ≡ reached o (v.target l) l)
-    → ((l : Lane) → v.written l ≡ true → v.target l ≢ me → v.target l < length o.outboxes) → (hops : ℕ → List Lane) → ((y : ℕ) → y < length o.outboxes → HasPlaces (stops_for o.waiting y) (hops y))
-    → ((l : Lane) → v.written l ≡ true → AreAmong (l ∷ []) (hops (v.target l))) → RunsOn world me v o work
+    → ((l : Lane) → v.target l ≡ me → v.written l ≡ true → (over : Bool) × (v.came l ≡ point (v.taken l) over)) → ((l : Lane) → v.target l ≢ me → v.written l ≡ true → v.came l ≡ reached o (way_to o (v.target l)) l)
+    → ((l : Lane) → v.written l ≡ true → v.target l ≢ me → way_to o (v.target l) < length o.outboxes) → (hops : ℕ → List Lane) → ((y : ℕ) → y < length o.outboxes → HasPlaces (stops_for o.waiting y) (hops y))
+    → ((l : Lane) → v.written l ≡ true → AreAmong (l ∷ []) (hops (way_to o (v.target l)))) → RunsOn world me v o work
 runs-start world me v o work none own away there hops placed among = record {
   own = λ l t w. let h = own l t w in (h.0, empty (point (v.taken l) h.0) (v.came l) (has_stopped work.stopped l) false l (sym h.1));
-  away = λ l t w. empty (reached o (v.target l) l) (v.came l) (has_stopped work.stopped l) (is_cut o (v.target l) l) l (sym (away l t w));
+  away = λ l t w. empty (reached o (way_to o (v.target l)) l) (v.came l) (has_stopped work.stopped l) (is_cut o (way_to o (v.target l)) l) l (sym (away l t w));
   others = λ l w. ap (λ zs. on l zs) none;
   there = there;
   hops = hops;
@@ -76,14 +80,14 @@ module _ {world : World} {me : ℕ} {v : LanesView} {o : OutboxesView} {before :
   own-good here = (own-next here).1.0.good
 
   -- where it enters another executor, that is there, has a place for it, and it is the next of its lane there
-  pub away-there : v.target x.lane ≢ me → v.target x.lane < length o.outboxes
+  pub away-there : v.target x.lane ≢ me → way_to o (v.target x.lane) < length o.outboxes
   away-there away = r.there x.lane front-written away
 
-  pub away-next : v.target x.lane ≢ me → is_cut o (v.target x.lane) x.lane ≡ false → IsNext world (reached o (v.target x.lane) x.lane) x
-  away-next away goes = (subst (λ zs. IsFlow world (reached o (v.target x.lane) x.lane) zs) (there-on x.lane (same_lane-self x.lane)) ((r.away x.lane away front-written).flow goes)).0
+  pub away-next : v.target x.lane ≢ me → is_cut o (way_to o (v.target x.lane)) x.lane ≡ false → IsNext world (reached o (way_to o (v.target x.lane)) x.lane) x
+  away-next away goes = (subst (λ zs. IsFlow world (reached o (way_to o (v.target x.lane)) x.lane) zs) (there-on x.lane (same_lane-self x.lane)) ((r.away x.lane away front-written).flow goes)).0
 
-  pub away-placed : v.target x.lane ≢ me → HasPlaces (stops_for o.waiting (v.target x.lane)) (x.lane ∷ [])
-  away-placed away = places-for (stops_for o.waiting (v.target x.lane)) (r.hops (v.target x.lane)) (x.lane ∷ []) (r.placed (v.target x.lane) (away-there away)) (r.among x.lane front-written)
+  pub away-placed : v.target x.lane ≢ me → HasPlaces (stops_for o.waiting (way_to o (v.target x.lane))) (x.lane ∷ [])
+  away-placed away = let way = way_to o (v.target x.lane) in places-for (stops_for o.waiting way) (r.hops way) (x.lane ∷ []) (r.placed way (away-there away)) (r.among x.lane front-written)
 
   others-left : (l : Lane) → v.written l ≡ false → on l mid.items ≡ []
   others-left l w = ⊎_elim
@@ -114,7 +118,7 @@ module _ {world : World} {me : ℕ} {v : LanesView} {o : OutboxesView} {before :
     away = λ l t w. ⊎_elim
         (λ (e : same_lane l x.lane ≡ true). absurd (t (ap v.target (same_lane-equal l x.lane e) ∙ here)))
         (λ (e : same_lane l x.lane ≡ false).
-        subst (λ (y : StopsView × List Envelope). LaneRuns world (reached o (v.target l) l) (is_cut o (v.target l) l) (has_stopped y.0 l) y.1 (v.came l)) (λ i. (sym stops i, same-on l e i)) (r.away l t w))
+        subst (λ (y : StopsView × List Envelope). LaneRuns world (reached o (way_to o (v.target l)) l) (is_cut o (way_to o (v.target l)) l) (has_stopped y.0 l) y.1 (v.came l)) (λ i. (sym stops i, same-on l e i)) (r.away l t w))
         (cases_Bool (same_lane l x.lane));
     others = others-left;
     there = r.there;
@@ -124,43 +128,42 @@ module _ {world : World} {me : ℕ} {v : LanesView} {o : OutboxesView} {before :
   }
 
   -- it waits for another executor, or was refused there
-  pub away-added : (o' : OutboxesView) → v.target x.lane ≢ me → Adds o (v.target x.lane) x o' → RunsOn world me v o' mid
+  pub away-added : (o' : OutboxesView) → v.target x.lane ≢ me → Adds o (way_to o (v.target x.lane)) x o' → RunsOn world me v o' mid
   away-added o' away adds = record {
     own = λ l t w. let b = r.own l t w in ⊎_elim
         (λ (e : same_lane l x.lane ≡ true). absurd (away (sym (ap v.target (same_lane-equal l x.lane e)) ∙ t)))
         (λ (e : same_lane l x.lane ≡ false).
         (b.0, subst (λ (y : StopsView × List Envelope). LaneRuns world (point (v.taken l) b.0) false (has_stopped y.0 l) y.1 (v.came l)) (λ i. (sym stops i, same-on l e i)) b.1))
         (cases_Bool (same_lane l x.lane));
-    away = λ l t w. let b = r.away l t w in ⊎_elim
+    away = λ l t w. let b = r.away l t w in
+        let k = way_to o (v.target l) in
+        subst (λ (n : ℕ). LaneRuns world (reached o' n l) (is_cut o' n l) (has_stopped mid.stopped l) (on l mid.items) (v.came l)) (same-way l) (⊎_elim
         (λ (e : same_lane l x.lane ≡ true).
-        let b' = subst (λ (y : StopsView × List Envelope). LaneRuns world (reached o (v.target l) l) (is_cut o (v.target l) l) (has_stopped y.0 l) y.1 (v.came l)) (λ i. (sym stops i, there-on l e i)) b in
-        lane-behind world (has_stopped mid.stopped l) (is_cut o (v.target l) l) (is_cut o' (v.target l) l) (after x) (reached o' (v.target l) l) (v.came l) (on l mid.items)
-        (lane-leaves world (has_stopped mid.stopped l) (is_cut o (v.target l) l) (reached o (v.target l) l) (v.came l) x (on l mid.items) b')
-        (λ c. (
-          adds.cut (v.target l) l c,
-          adds.reached (v.target l) l c ∙ cond-true ((v.target l == v.target x.lane) && same_lane l x.lane) _ _ (ap (λ (s : Bool). s && same_lane l x.lane) (eq-eqb (v.target l) (v.target x.lane) (ap v.target (same_lane-equal l x.lane e))) ∙ e),
-        )))
+        let b' = subst (λ (y : StopsView × List Envelope). LaneRuns world (reached o k l) (is_cut o k l) (has_stopped y.0 l) y.1 (v.came l)) (λ i. (sym stops i, there-on l e i)) b in
+        lane-behind world (has_stopped mid.stopped l) (is_cut o k l) (is_cut o' k l) (after x) (reached o' k l) (v.came l) (on l mid.items)
+        (lane-leaves world (has_stopped mid.stopped l) (is_cut o k l) (reached o k l) (v.came l) x (on l mid.items) b')
+        (λ c. (adds.cut k l c, adds.reached k l c ∙ cond-true ((k == way_to o (v.target x.lane)) && same_lane l x.lane) _ _ (ap (λ (s : Bool). s && same_lane l x.lane) (eq-eqb k (way_to o (v.target x.lane)) (ap (λ (m : Lane). way_to o (v.target m)) (same_lane-equal l x.lane e))) ∙ e))))
         (λ (e : same_lane l x.lane ≡ false).
-        let b' = subst (λ (y : StopsView × List Envelope). LaneRuns world (reached o (v.target l) l) (is_cut o (v.target l) l) (has_stopped y.0 l) y.1 (v.came l)) (λ i. (sym stops i, same-on l e i)) b in
-        lane-behind world (has_stopped mid.stopped l) (is_cut o (v.target l) l) (is_cut o' (v.target l) l) (reached o (v.target l) l) (reached o' (v.target l) l) (v.came l) (on l mid.items) b'
-        (λ c. (
-          adds.cut (v.target l) l c,
-          adds.reached (v.target l) l c ∙ cond-false ((v.target l == v.target x.lane) && same_lane l x.lane) _ _ (and_right (v.target l == v.target x.lane) (same_lane l x.lane) e),
-        )))
-        (cases_Bool (same_lane l x.lane));
+        let b' = subst (λ (y : StopsView × List Envelope). LaneRuns world (reached o k l) (is_cut o k l) (has_stopped y.0 l) y.1 (v.came l)) (λ i. (sym stops i, same-on l e i)) b in
+        lane-behind world (has_stopped mid.stopped l) (is_cut o k l) (is_cut o' k l) (reached o k l) (reached o' k l) (v.came l) (on l mid.items) b'
+        (λ c. (adds.cut k l c, adds.reached k l c ∙ cond-false ((k == way_to o (v.target x.lane)) && same_lane l x.lane) _ _ (and_right (k == way_to o (v.target x.lane)) (same_lane l x.lane) e))))
+        (cases_Bool (same_lane l x.lane)));
     others = others-left;
-    there = λ l w t. let h = r.there l w t in let n = adds.count in omega (arith, h, n);
+    there = λ l w t. let h = r.there l w t in let n = adds.count in let same = same-way l in omega (arith, h, n, same);
     hops = r.hops;
     placed = λ y within.
         let p = r.placed y (let n = adds.count in omega (arith, within, n)) in ⊎_elim
-        (λ (e : y ≡ v.target x.lane).
+        (λ (e : y ≡ way_to o (v.target x.lane)).
         subst (λ k. HasPlaces (stops_for o'.waiting k) (r.hops k)) (sym e)
-        (adds.placed (r.hops (v.target x.lane)) (r.among x.lane front-written) (subst (λ k. HasPlaces (stops_for o.waiting k) (r.hops k)) e p)))
-        (λ (e : y ≡ v.target x.lane → ⊥).
+        (adds.placed (r.hops (way_to o (v.target x.lane))) (r.among x.lane front-written) (subst (λ k. HasPlaces (stops_for o.waiting k) (r.hops k)) e p)))
+        (λ (e : y ≡ way_to o (v.target x.lane) → ⊥).
         subst (λ s. HasPlaces s (r.hops y)) (sym (ap (λ b. option_map_or (λ (c : BacklogView (Stamp AdmittedView)). c.stopped) b (no_stops 0)) (adds.others y e).1)) p)
-        (cases_eq y (v.target x.lane));
-    among = r.among;
+        (cases_eq y (way_to o (v.target x.lane)));
+    among = λ l w. subst (λ (k : ℕ). AreAmong (l ∷ []) (r.hops k)) (same-way l) (r.among l w);
   }
+    where
+      same-way : (l : Lane) → way_to o (v.target l) ≡ way_to o' (v.target l)
+      same-way l = ways-same o o' (v.target l) adds.ways
 
 -- ---- what nodes put on the list
 
@@ -176,8 +179,8 @@ runs-on {world} {me} {o} {mid} {after} v v' taken r m same counts = subst (λ (u
       let g = lane-grows world (v.written l) (has_stopped mid.stopped l) (has_stopped after.stopped l) false (point (taken l) b.0) (v.came l) (v'.came l) (on l mid.items) (on l m.added) b.1 (m.lanes l) in
       (b.0, subst (λ (y : List Envelope). LaneRuns world (point (taken l) b.0) false (has_stopped after.stopped l) y (v'.came l)) (sym (more l)) g);
   away = λ l off own.
-      subst (λ (y : List Envelope). LaneRuns world (reached o (v.target l) l) (is_cut o (v.target l) l) (has_stopped after.stopped l) y (v'.came l)) (sym (more l))
-      (lane-grows world (v.written l) (has_stopped mid.stopped l) (has_stopped after.stopped l) (is_cut o (v.target l) l) (reached o (v.target l) l) (v.came l) (v'.came l) (on l mid.items) (on l m.added) (r.away l off own) (m.lanes l));
+      subst (λ (y : List Envelope). LaneRuns world (reached o (way_to o (v.target l)) l) (is_cut o (way_to o (v.target l)) l) (has_stopped after.stopped l) y (v'.came l)) (sym (more l))
+      (lane-grows world (v.written l) (has_stopped mid.stopped l) (has_stopped after.stopped l) (is_cut o (way_to o (v.target l)) l) (reached o (way_to o (v.target l)) l) (v.came l) (v'.came l) (on l mid.items) (on l m.added) (r.away l off own) (m.lanes l));
   others = λ l no. more l ∙ ap (λ zs. zs ++ on l m.added) (r.others l no) ∙ (m.lanes l).idle no;
   there = r.there;
   hops = r.hops;
@@ -246,13 +249,18 @@ runs-stay : {world : World} {me : ℕ} {v : LanesView} {o o' : OutboxesView} {wo
 runs-stay {world} {me} {v} {o} {o'} {work} r stays = record {
   own = r.own;
   away = λ l t w.
-      subst (λ (z : Point × Bool). LaneRuns world z.0 z.1 (has_stopped work.stopped l) (on l work.items) (v.came l)) (λ i. (sym (stays.reached (v.target l) l) i, sym (stays.cut (v.target l) l) i)) (r.away l t w);
+      let way = way_to o (v.target l) in
+      subst (λ (k : ℕ). LaneRuns world (reached o' k l) (is_cut o' k l) (has_stopped work.stopped l) (on l work.items) (v.came l)) (same-way l)
+      (subst (λ (z : Point × Bool). LaneRuns world z.0 z.1 (has_stopped work.stopped l) (on l work.items) (v.came l)) (λ i. (sym (stays.reached way l) i, sym (stays.cut way l) i)) (r.away l t w));
   others = r.others;
-  there = λ l w t. let h = r.there l w t in let n = stays.count in omega (arith, h, n);
+  there = λ l w t. let h = r.there l w t in let n = stays.count in let same = same-way l in omega (arith, h, n, same);
   hops = r.hops;
   placed = λ y within. subst (λ s. HasPlaces s (r.hops y)) (sym (stays.stops y)) (r.placed y (let n = stays.count in omega (arith, within, n)));
-  among = r.among;
+  among = λ l w. subst (λ (k : ℕ). AreAmong (l ∷ []) (r.hops k)) (same-way l) (r.among l w);
 }
+  where
+    same-way : (l : Lane) → way_to o (v.target l) ≡ way_to o' (v.target l)
+    same-way l = ways-same o o' (v.target l) stays.ways
 
 pub holds-stay : {W M N S T : Type 0} {view_of : N → OwnNodesView} {stands : N → Type 0} {world : World} {c : Core W M N S T} {o : OutboxesView} → CoreHolds view_of stands world c → Stays c.outboxes o → CoreHolds view_of stands world (record c { outboxes = o })
 holds-stay {c = c} {o = o} holds stays = record {

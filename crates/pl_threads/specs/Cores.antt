@@ -7,7 +7,7 @@ use Rattle.pl_context.specs.OutputsViews.{OutputsView}
 use Rattle.pl_context.specs.Stops.{HasPlaces}
 use Rattle.pl_words.specs.declared.admission.Refused.TheVariants.{Closed}
 use Rattle.pl_outbox.specs.Admitting.{AdmitsOnce}
-use Rattle.pl_outbox.specs.OutboxViews.{OutboxesView, Comes, RefusedBy, SendsNothing, SomeClosed}
+use Rattle.pl_outbox.specs.OutboxViews.{OutboxesView, way_to, Comes, RefusedBy, SendsNothing, SomeClosed}
 use Rattle.pl_threads.specs.declared.cores.Core.{Core}
 use Rattle.pl_threads.specs.NodesViews.{OwnNodesView, NodesActs, NodesKeep}
 use Rattle.pl_threads.specs.Running.{RunsOn}
@@ -50,8 +50,8 @@ module _ {N : Type 0} (view_of : N → OwnNodesView) (acts : NodesActs N) where
   -- What became of an item for another executor: it comes last there, or what stands in for it. Or that executor was found
   -- closed, and the node that writes the item's lane has given up.
   abbrev pub Departs : AtWork N → Envelope → OutputsView → AtWork N → Type 0
-  Departs a x rest b = (Comes a.outboxes ((view_of a.nodes).lanes.target x.lane) x b.outboxes × (b.nodes ≡ a.nodes) × (b.work ≡ rest))
-      ⊎ (RefusedBy a.outboxes ((view_of a.nodes).lanes.target x.lane) Closed b.outboxes × acts.gave_up b.nodes x.lane × acts.refuses a.nodes x.lane rest b.nodes b.work)
+  Departs a x rest b = (Comes a.outboxes (way_to a.outboxes ((view_of a.nodes).lanes.target x.lane)) x b.outboxes × (b.nodes ≡ a.nodes) × (b.work ≡ rest))
+      ⊎ (RefusedBy a.outboxes (way_to a.outboxes ((view_of a.nodes).lanes.target x.lane)) Closed b.outboxes × acts.gave_up b.nodes x.lane × acts.refuses a.nodes x.lane rest b.nodes b.work)
 
   module _ (me : ℕ) where
     -- The front of the work list has left it. A node here took it, or it departed.

@@ -17,7 +17,7 @@ pub record OwnNodesView : Type 0 where
   pub was_refused : Bool
 
 -- What nodes do (ChannelHandler). It is what a node makes of an item that it takes, what becomes of the node that writes a
--- lane where an item of that is refused, and what the head of the channel at a place does in a move, with the work list
+-- lane where an item of that is refused, and what the head of the channel at a position does in a move, with the work list
 -- before and after. A context whose data lane was refused has given up: it has ended or failed.
 pub record NodesActs (N : Type 0) : Type 1 where
   pub takes : N → Envelope → OutputsView → N → OutputsView → Type 0

@@ -13,19 +13,19 @@ use Rattle.pl_words.specs.Admissions.{AdmittedView, OwnerSeatView, SendSeatView}
 use Rattle.pl_flow.specs.Flows.{point, on}
 use Rattle.pl_flow.specs.LanesViews.{LanesView}
 use Rattle.pl_flow.specs.LaneRuns.{LaneRuns}
-use Rattle.pl_outbox.specs.OutboxViews.{OutboxesView, reached, is_cut, is_closed, waits_in}
+use Rattle.pl_outbox.specs.OutboxViews.{OutboxesView, way_to, reached, is_cut, is_closed, waits_in}
 use Rattle.pl_threads.specs.NodesViews.{OwnNodesView}
 
 -- of each lane, what the list of an executor of this number has follows what went on (SingleThreadEventExecutor)
 pub record RunsOn (world : World) (me : ℕ) (v : LanesView) (o : OutboxesView) (work : OutputsView) : Type 0 where
   pub own : (l : Lane) → v.target l ≡ me → v.written l ≡ true → (over : Bool) × LaneRuns world (point (v.taken l) over) false (has_stopped work.stopped l) (on l work.items) (v.came l)
-  pub away : (l : Lane) → v.target l ≢ me → v.written l ≡ true → LaneRuns world (reached o (v.target l) l) (is_cut o (v.target l) l) (has_stopped work.stopped l) (on l work.items) (v.came l)
+  pub away : (l : Lane) → v.target l ≢ me → v.written l ≡ true → LaneRuns world (reached o (way_to o (v.target l)) l) (is_cut o (way_to o (v.target l)) l) (has_stopped work.stopped l) (on l work.items) (v.came l)
   pub others : (l : Lane) → v.written l ≡ false → on l work.items ≡ []
-  -- each lane that is written has its target, with a place there
-  pub there : (l : Lane) → v.written l ≡ true → v.target l ≢ me → v.target l < length o.outboxes
+  -- there is a way for each lane that is written, with a place for it
+  pub there : (l : Lane) → v.written l ≡ true → v.target l ≢ me → way_to o (v.target l) < length o.outboxes
   pub hops : ℕ → List Lane
   pub placed : (y : ℕ) → y < length o.outboxes → HasPlaces (stops_for o.waiting y) (hops y)
-  pub among : (l : Lane) → v.written l ≡ true → AreAmong (l ∷ []) (hops (v.target l))
+  pub among : (l : Lane) → v.written l ≡ true → AreAmong (l ∷ []) (hops (way_to o (v.target l)))
 
 -- What a taker is to take is the nodes' next. It enters one of the executor's nodes, and none of them writes it.
 abbrev pub IsTaking : ℕ → LanesView → List TakeCount → Type 0

@@ -76,7 +76,7 @@ module _ {N : Type 0} (view_of : N → OwnNodesView) (acts : NodesActs N) where
     pub turns : e'.turns ≡ e.turns
     pub takes : (e' ≡ e) ⊎ TakesOne e e'
 
-  -- The head of the channel at a place made a move, with nothing on the work list before, and that list was worked off.
+  -- The head of the channel at a position made a move, with nothing on the work list before, and that list was worked off.
   pub record MovesHead (by : HeadMove) (at : ℕ) (e e' : ExecutorView N) : Type 0 where
     pub work : OutputsView
     pub empty : work.items ≡ []

@@ -120,12 +120,12 @@ impl<'a, W: Named, M: Mailbox<W> + Drop, N: OwnNodes<W> + Drop> Executor<'a, W, 
         }
     }
 
-    /// One turn, of which the gate is told first: at most one envelope is handed over and one task is run, and one channel makes
+    /// One turn, at which the gate is entered first: at most one envelope is handed over and one task is run, and one channel makes
     /// at most one read step and one write. Where nothing moved and all here has ended, it closes its queue if it can.
     pub fn turn<R: Wait, G: Gate>(&mut self, rt: &R, gate: &G) -> Turn
         ensures number { self.new.number ≡ self.old.number }
         ensures turns { self.new.turns ≡ min (self.old.turns + 1) (2 ^ 64 - 1) }
-        // The gate was told of this turn.
+        // The gate was entered at this turn.
         ensures entered { G.was_entered gate.now self.old.number self.old.turns }
         ensures takes { TakesAtMostOne self.old self.new }
         ensures sends { SendsAtMostOne self.old.outboxes self.new.outboxes }
@@ -155,7 +155,7 @@ impl<'a, W: Named, M: Mailbox<W> + Drop, N: OwnNodes<W> + Drop> Executor<'a, W, 
         Turn::Idle
     }
 
-    /// What a turn moves, once the gate was told of it. False where nothing was enabled, and no read waits.
+    /// What a turn moves, once the gate was entered at it. False where nothing was enabled, and no read waits.
     fn moves<R: Wait, G: Gate>(&mut self, rt: &R, gate: &G) -> bool
         requires entered { G.was_entered gate.now self.old.number self.old.turns }
         ensures number { self.new.number ≡ self.old.number }
@@ -172,7 +172,7 @@ impl<'a, W: Named, M: Mailbox<W> + Drop, N: OwnNodes<W> + Drop> Executor<'a, W, 
         if handed || ran {
             self.reads_wait = false;
             self.handed = self.handed.saturating_add(u32::from(handed));
-            self.core.outboxes.tell_congestion(&self.inbox.congestion);
+            self.core.outboxes.update_congestion(&self.inbox.congestion);
             self.write_one(rt, ran);
             return true;
         }
@@ -202,7 +202,7 @@ impl<'a, W: Named, M: Mailbox<W> + Drop, N: OwnNodes<W> + Drop> Executor<'a, W, 
         self.serve_first(rt, true)
     }
 
-    /// In a turn of which the gate was told: takes the front of its queue, and makes all direct calls that follow. False where the
+    /// In a turn at which the gate was entered: takes the front of its queue, and makes all direct calls that follow. False where the
     /// queue was empty, or is closed. Those that wait for room there are woken where it was empty, and at the first of each 56
     /// envelopes. The gate is there for the condition alone, which it witnesses. It says of no congestion, as `turn` does.
     pub fn run_task<R: Wait, G: Gate>(&mut self, rt: &R, _gate: &G) -> bool
@@ -220,11 +220,11 @@ impl<'a, W: Named, M: Mailbox<W> + Drop, N: OwnNodes<W> + Drop> Executor<'a, W, 
         }
         match next_task::<W, M, R>(rt, &self.inbox.mailbox, &mut self.taker) {
             None => {
-                self.core.outboxes.ring(self.inbox.bell.take_waiting());
+                self.core.outboxes.ring(self.inbox.bell.take_waiters());
                 false
             }
             Some(envelope) => {
-                let waiters = self.inbox.bell.take_waiting_after(self.taken);
+                let waiters = self.inbox.bell.take_waiters_after(self.taken);
                 self.core.outboxes.ring(waiters);
                 self.taken = self.taken.saturating_add(1);
                 self.core.take(envelope);
@@ -234,9 +234,9 @@ impl<'a, W: Named, M: Mailbox<W> + Drop, N: OwnNodes<W> + Drop> Executor<'a, W, 
         }
     }
 
-    /// In a turn of which the gate was told: hands over the oldest envelope whose queue has room. The executor to which it
-    /// went, or None where nothing waits but for queues that are full. The gate is there for the condition alone, which it
-    /// witnesses. It says of no congestion, as `turn` does.
+    /// In a turn at which the gate was entered: hands over the oldest envelope whose queue has room. The number of the way by
+    /// which it went, or None where nothing waits but for queues that are full. The gate is there for the condition alone,
+    /// which it witnesses. It says of no congestion, as `turn` does.
     pub fn hand<R: Wait, G: Gate>(&mut self, rt: &R, _gate: &G) -> Option<usize>
         requires entered { G.was_entered _gate.now self.old.number self.old.turns }
         ensures same { self.new ≡ record self.old { outboxes = self.new.outboxes } }
@@ -394,7 +394,7 @@ impl<'a, W: Named, M: Mailbox<W> + Drop, N: OwnNodes<W> + Drop> Executor<'a, W, 
     ) -> Option<Finished<W, M, N>>
         // Its own queue is closed, and nothing waits for others.
         ensures ended { IfSome result (EndsAs N.view_of self.entry.number self.entry.owner) }
-        // The gate was told of its first turn here.
+        // The gate was entered at its first turn here.
         ensures entered { IfSome result (λ _. G.was_entered gate.now self.entry.number self.entry.turns) }
     {
         if !start.wait(rt) {
@@ -452,7 +452,7 @@ impl<'a, W: Named, M: Mailbox<W> + Drop, N: OwnNodes<W> + Drop> Executor<'a, W, 
     /// its reads wait though it has handed all over, it notes at each executor that they wait for the end of congestion.
     fn announce_rest(&self) {
         self.inbox.bell.announce_rest();
-        self.core.outboxes.note_waiting(self.core.number);
+        self.core.outboxes.note_waiter(self.core.number);
         if self.reads_wait && self.has_handed_all() {
             self.core.outboxes.note_reader(self.core.number);
         }

@@ -1,10 +1,10 @@
-//! Who is told of each turn.
+//! What is entered at each turn.
 
 ghost use Rattle.std.specs.Prelude.{ℕ};
 
-/// Is told of each turn of each executor. It is told first; what is proved is that by the end of the turn it was.
+/// Is entered at each turn of each executor. It is entered first; what is proved is that by the end of the turn it was.
 pub trait Gate {
-    /// It was told of this turn of this executor.
+    /// It was entered at this turn of this executor.
     ghost was_entered: { Self → ℕ → ℕ → Type 0 } = { λ g executor turn. Unit {0} };
 
     /// A turn of an executor begins. The number 2^64 - 1 stays once it is reached.

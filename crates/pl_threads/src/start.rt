@@ -3,8 +3,8 @@
 use std::sync::Wait;
 use std::sync::atomic::{AtomicU64, Ordering};
 
-/// Nothing was told yet.
-const UNTOLD: u64 = 0;
+/// Nothing is decided yet.
+const UNDECIDED: u64 = 0;
 
 /// Each has a thread, so all begin.
 const BEGIN: u64 = 1;
@@ -15,30 +15,30 @@ const LEAVE: u64 = 2;
 /// What all executors wait for before their first turn: whether each has a thread.
 #[derive(Drop)]
 pub struct Start {
-    told: AtomicU64,
+    decision: AtomicU64,
 }
 
 impl Start {
-    /// Nothing is known yet.
+    /// Nothing is decided yet.
     pub fn new() -> Start {
         Start {
-            told: AtomicU64::new(UNTOLD),
+            decision: AtomicU64::new(UNDECIDED),
         }
     }
 
-    /// Tells all whether to begin, and wakes those that wait for it.
-    pub fn tell(&self, begin: bool) {
-        let word = if begin { BEGIN } else { LEAVE };
-        self.told.store(word, Ordering::SeqCst);
-        self.told.wake_all();
+    /// Decides whether all begin, and wakes those that wait for it.
+    pub fn decide(&self, begin: bool) {
+        let decision = if begin { BEGIN } else { LEAVE };
+        self.decision.store(decision, Ordering::SeqCst);
+        self.decision.wake_all();
     }
 
-    /// Waits until it is known, and answers whether to begin.
+    /// Waits until it is decided, and answers whether to begin.
     pub fn wait<R: Wait>(&self, rt: &R) -> bool {
         for _ in rt.forever() {
-            match self.told.load(Ordering::SeqCst) {
-                UNTOLD => self.told.park(rt, UNTOLD as u32),
-                word => return word == BEGIN,
+            match self.decision.load(Ordering::SeqCst) {
+                UNDECIDED => self.decision.park(rt, UNDECIDED as u32),
+                decision => return decision == BEGIN,
             }
         }
         unreachable!()

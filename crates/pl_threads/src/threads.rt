@@ -38,7 +38,7 @@ impl From<AllocError> for RunFault {
     }
 }
 
-/// What a thread gives is the executor of this number and this right to its queue, ended, which has told the gate of its first
+/// What a thread gives is the executor of this number and this right to its queue, ended, which has entered the gate at its first
 /// turn in the thread.
 #[derive(Drop)]
 struct Promised<G: Gate> {
@@ -152,7 +152,7 @@ where
     M::Sender: Send,
     M::Taker: Send,
     ensures ended { IfOk result (λ all. AllZip (λ e f. EndsAs N.view_of e.0.number e.0.owner f) executors.entry.items all.items) }
-    // The gate was told of the first turn of each.
+    // The gate was entered at the first turn of each.
     ensures entered { IfOk result (λ _. All (λ e. G.was_entered gate.now e.0.number e.0.turns) executors.entry.items) }
 {
     let all = Vec::with_capacity(alloc, executors.len())?;
@@ -168,7 +168,7 @@ where
         {
             let handles = start_each(rt, alloc, scope, gate, start, executors);
             // They begin, or leave where one could not be started.
-            start.tell(handles.is_ok());
+            start.decide(handles.is_ok());
             join_all(rt, handles?, all)
         },
     )

@@ -1,5 +1,5 @@
 -- An executor of the tests before its first turn.
-use Rattle.std.proofs.Common.{arith, ◌≡◌, ◌≢◌, ◌<◌, ◌==◌, ◌||◌, ℕ, zero, suc, Bool, true, false, not, List, [], ◌∷◌, length, map, get_or, slice_get, Option, Some, None, refl, ap, sym, ◌∙◌, subst, ⊎_elim}
+use Rattle.std.proofs.Common.{arith, ◌≡◌, ◌≢◌, ◌-◌, ◌^◌, ◌<◌, ◌==◌, ◌||◌, ℕ, zero, suc, Bool, true, false, not, List, [], ◌∷◌, length, map, get_or, slice_get, Option, Some, None, refl, ap, sym, ◌∙◌, subst, ⊎_elim}
 use Rattle.std.specs.Prelude.{All}
 use Rattle.std.specs.Option.{option_map, option_map_or}
 use Rattle.std.proofs.lemmas.Bool.{cond-true, cond-false, cases_Bool, both_ways, and_parts, and_from, eq-eqb}
@@ -23,14 +23,16 @@ use Rattle.pl_flow.specs.Flows.{point, nowhere, on, past}
 use Rattle.pl_outbox.specs.declared.inbox.Inbox.{Inbox}
 use Rattle.pl_outbox.specs.Admitting.{FewLanes}
 use Rattle.pl_outbox.specs.Sent.{sent_at}
-use Rattle.pl_outbox.specs.OutboxViews.{OutboxView, OutboxesView, waits_for, sent_to, reached}
+use Rattle.pl_outbox.specs.OutboxViews.{OutboxView, OutboxesView, waits_for, sent_to, way_to, reached}
 use Rattle.pl_threads.specs.Running.{RunsOn, IsTaking}
 use Rattle.pl_threads.proofs.RunLemmas.{runs-start}
 use Rattle.pl_threads_tests.specs.declared.nodes.Node.{Node}
 use Rattle.pl_threads_tests.specs.declared.nodes.Outlet.{Outlet}
+use Rattle.pl_threads_tests.specs.declared.places.Own.{Own}
+use Rattle.pl_threads_tests.specs.declared.places.Places.{Places}
 use Rattle.pl_threads_tests.specs.declared.places.Way.{Way}
 use Rattle.pl_threads_tests.specs.Nodes.{IsFresh, NodeStands, came, lane_to, makes, node_view, outlets_of, target_of, writes}
-use Rattle.pl_threads_tests.specs.Openings.{HasLane, IsWay, makes_for}
+use Rattle.pl_threads_tests.specs.Openings.{ArePlaces, HasLane, IsOpened, IsOwn, IsWay, makes_for}
 use Rattle.pl_threads_tests.proofs.NodeLemmas.{makes-lane}
 
 -- where flags are made for an executor, there is a way to it, on which none was sent
@@ -61,20 +63,37 @@ few-lanes n = record {
       (cases_Bool (makes n.first l));
 }
 
+-- the way to each executor has its number
+abbrev pub three_ways : List ℕ
+three_ways = 0 ∷ 1 ∷ 2 ∷ []
+
 -- what was written by an outlet goes by its way
-module _ (o : OutboxesView) (waits : (y : ℕ) → waits_for o y ≡ []) where
-  way-first : (p : Outlet) → HasWay p o.outboxes → (l : Lane) → makes p l ≡ true → (target_of l ≡ p.target) × (reached o (target_of l) l ≡ point 0 false) × (target_of l < length o.outboxes)
-  way-first p has l made =
+module _ (o : OutboxesView) (ways : o.ways ≡ three_ways) (waits : (y : ℕ) → waits_for o y ≡ []) where
+  -- the way to an executor has its number
+  own-way : (y : ℕ) → y < 3 → way_to o y ≡ y
+  own-way y within = ap (λ (ws : List ℕ). get_or ws y (2 ^ 16 - 1)) ways ∙ at y within
+    where
+      at : (y : ℕ) → y < 3 → get_or three_ways y (2 ^ 16 - 1) ≡ y
+      at zero e = refl
+      at (suc zero) e = refl
+      at (suc (suc zero)) e = refl
+      at (suc (suc (suc y))) e = absurd (omega (arith, e))
+
+  way-first : (p : Outlet) → HasWay p o.outboxes → (0 < p.count → p.target < 3) → (l : Lane) → makes p l ≡ true → (target_of l ≡ p.target) × (way_to o (target_of l) ≡ p.target) × (reached o (way_to o (target_of l)) l ≡ point 0 false) × (way_to o (target_of l) < length o.outboxes)
+  way-first p has small l made =
       let is : l ≡ lane_to p.target = makes-lane p l made in
       let to : target_of l ≡ p.target = ap (λ (m : Lane). target_of m) is ∙ target-lane p.target in
-      let way = has (some p.count (and_parts _ _ made).0) in
+      let count = some p.count (and_parts _ _ made).0 in
+      let way = has count in
+      let by = own-way (target_of l) (subst (λ (y : ℕ). y < 3) (sym to) (small count)) ∙ to in
       let sent : sent_to o p.target l ≡ point 0 false =
       ap (λ (b : Option OutboxView). option_map_or (λ (b : OutboxView). sent_at b.sends.send_counts l) b nowhere) way.1
       ∙ ap (λ s. sent_at s.send_counts l) way.2
       ∙ cond-true (same_lane l (lane_to p.target)) (point 0 false) nowhere (ap (λ (m : Lane). same_lane m (lane_to p.target)) is ∙ same_lane-self (lane_to p.target)) in (
         to,
-        ap (λ (y : ℕ). reached o y l) to ∙ ap (λ zs. past (sent_to o p.target l) (on l zs)) (waits p.target) ∙ sent,
-        subst (λ (y : ℕ). y < length o.outboxes) (sym to) (slice_get_within o.outboxes p.target way.0 way.1),
+        by,
+        ap (λ (y : ℕ). reached o y l) by ∙ ap (λ zs. past (sent_to o p.target l) (on l zs)) (waits p.target) ∙ sent,
+        subst (λ (y : ℕ). y < length o.outboxes) (sym by) (slice_get_within o.outboxes p.target way.0 way.1),
       )
     where
       some : (count : ℕ) → not (count == 0) ≡ true → 0 < count
@@ -100,17 +119,18 @@ module _ (n : Node) (s : NodeStands n) (f : IsFresh n) where
       written-none : (l : Lane) → l ≡ lane_to n.executor → writes n l ≡ false
       written-none l is = ap (λ (b : Bool). b || makes n.second l) (made-none n.first s.first l is) ∙ made-none n.second s.second l is
 
-  module _ (o : OutboxesView) (waits : (y : ℕ) → waits_for o y ≡ []) (first : HasWay n.first o.outboxes) (second : HasWay n.second o.outboxes) where
+  module _ (o : OutboxesView) (ways : o.ways ≡ three_ways) (waits : (y : ℕ) → waits_for o y ≡ []) (first : HasWay n.first o.outboxes) (second : HasWay n.second o.outboxes) (first_there : 0 < n.first.count → n.first.target < 3)
+      (second_there : 0 < n.second.count → n.second.target < 3) where
     -- a lane that the nodes write goes by its way, and nothing of it was made
-    written : (l : Lane) → writes n l ≡ true → (target_of l ≢ n.executor) × (came n l ≡ point 0 false) × (reached o (target_of l) l ≡ point 0 false) × (target_of l < length o.outboxes) × (l ≡ lane_to (target_of l))
+    written : (l : Lane) → writes n l ≡ true → (target_of l ≢ n.executor) × (came n l ≡ point 0 false) × (reached o (way_to o (target_of l)) l ≡ point 0 false) × (way_to o (target_of l) < length o.outboxes) × (l ≡ lane_to (way_to o (target_of l)))
     written l w = ⊎_elim
         (λ (t : makes n.first l ≡ true).
-        let way = way-first o waits n.first first l t in
-        (λ e. s.first (sym way.0 ∙ e), cond-true _ _ _ t ∙ ap (λ (m : ℕ). point m false) f.first, way.1, way.2, makes-lane n.first l t ∙ ap (λ (y : ℕ). lane_to y) (sym way.0)))
+        let way = way-first o ways waits n.first first first_there l t in
+        (λ e. s.first (sym way.0 ∙ e), cond-true _ _ _ t ∙ ap (λ (m : ℕ). point m false) f.first, way.2, way.3, makes-lane n.first l t ∙ ap (λ (y : ℕ). lane_to y) (sym way.1)))
         (λ (e : makes n.first l ≡ false).
         let t : makes n.second l ≡ true = ap (λ (b : Bool). b || makes n.second l) (sym e) ∙ w in
-        let way = way-first o waits n.second second l t in
-        (λ k. s.second (sym way.0 ∙ k), cond-false _ _ _ e ∙ cond-true _ _ _ t ∙ ap (λ (m : ℕ). point m false) f.second, way.1, way.2, makes-lane n.second l t ∙ ap (λ (y : ℕ). lane_to y) (sym way.0)))
+        let way = way-first o ways waits n.second second second_there l t in
+        (λ k. s.second (sym way.0 ∙ k), cond-false _ _ _ e ∙ cond-true _ _ _ t ∙ ap (λ (m : ℕ). point m false) f.second, way.2, way.3, makes-lane n.second l t ∙ ap (λ (y : ℕ). lane_to y) (sym way.1)))
         (cases_Bool (makes n.first l))
 
     -- there is a place for each lane to another executor
@@ -166,6 +186,32 @@ way-is ends mailbox name inbox lanes way same-mailbox same-name is own = record 
   sends = is.1;
   seat = own ∙ ap (λ (x : Name). new_send_seat x way.seat.number) (sym same-name);
 }
+
+-- what each executor has of the inboxes of three
+pub opened-are-places : {W M S T : Type 0} (ends : MailboxEnds M S T) {inboxes : List (Inbox W M S T)} {a b c : Inbox W M S T} {own-a own-b own-c : Own W M S T} {a0 a1 a2 b0 b1 b2 c0 c1 c2 : Way W M S T}
+    → inboxes ≡ a ∷ b ∷ c ∷ [] → IsOpened ends 0 a own-a a0 a1 a2 → IsOpened ends 1 b own-b b0 b1 b2 → IsOpened ends 2 c own-c c0 c1 c2
+    → ArePlaces ends inboxes (record {
+      first = record { own = own-a; first = a1; second = b1; third = c0 };
+      second = record { own = own-b; first = a2; second = b2; third = c1 };
+      third = record { own = own-c; first = a0; second = b0; third = c2 };
+    })
+opened-are-places {W = W} {M = M} {S = S} {T = T} ends {a = a} {b = b} {c = c} {own-a = own-a} {own-b = own-b} {own-c = own-c} {a0 = a0} {a1 = a1} {a2 = a2} {b0 = b0} {b1 = b1} {b2 = b2} {c0 = c0} {c1 = c1} {c2 = c2} are first second third =
+    let places : Places W M S T = record {
+      first = record { own = own-a; first = a1; second = b1; third = c0 };
+      second = record { own = own-b; first = a2; second = b2; third = c1 };
+      third = record { own = own-c; first = a0; second = b0; third = c2 };
+    } in
+    subst (λ (l : List (Inbox W M S T)). ArePlaces ends l places) (sym are) (record {
+      of_first = record { three = refl; there = omega arith; own = λ i at. owns 0 own-a a i at first.own; first = λ i at. way [] a1 a i at first.none; second = λ i at. way [] b1 b i at second.none; third = λ i at. way (lane_to 2 ∷ []) c0 c i at third.flags };
+      of_second = record { three = refl; there = omega arith; own = λ i at. owns 1 own-b b i at second.own; first = λ i at. way [] a2 a i at first.never; second = λ i at. way [] b2 b i at second.never; third = λ i at. way [] c1 c i at third.none };
+      of_third = record { three = refl; there = omega arith; own = λ i at. owns 2 own-c c i at third.own; first = λ i at. way (lane_to 0 ∷ []) a0 a i at first.flags; second = λ i at. way (lane_to 1 ∷ []) b0 b i at second.flags; third = λ i at. way [] c2 c i at third.never };
+    })
+  where
+    owns : (executor : ℕ) (own : Own W M S T) (x y : Inbox W M S T) → Some x ≡ Some y → IsOwn ends x executor own → IsOwn ends y executor own
+    owns executor own x y at is = subst (λ (j : Inbox W M S T). IsOwn ends j executor own) (same_Some x y at) is
+
+    way : (lanes : List Lane) (w : Way W M S T) (x y : Inbox W M S T) → Some x ≡ Some y → IsWay ends x lanes w → IsWay ends y lanes w
+    way lanes w x y at is = subst (λ (j : Inbox W M S T). IsWay ends j lanes w) (same_Some x y at) is
 
 -- where flags are made for a target, there is its outbox
 pub has-way : (executor : ℕ) (o : Outlet) (items : List OutboxView) (a b c : OutboxView) → items ≡ a ∷ b ∷ c ∷ [] → a.sends ≡ fresh_sends (makes_for executor 0) → b.sends ≡ fresh_sends (makes_for executor 1) → c.sends ≡ fresh_sends (makes_for executor 2)

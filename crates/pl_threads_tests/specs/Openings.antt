@@ -1,5 +1,5 @@
 -- The inboxes of three executors, and what each executor has of them before its first turn.
-use Rattle.std.specs.Prelude.{◌≡◌, ◌==◌, ◌&&◌, ◌<◌, ℕ, cond, not, List, [], ◌∷◌}
+use Rattle.std.specs.Prelude.{◌≡◌, ◌==◌, ◌&&◌, ◌<◌, ℕ, cond, not, List, [], ◌∷◌, length, slice_get, Some}
 use Rattle.pl_event.specs.declared.envelopes.Lane.{Lane}
 use Rattle.pl_queue.specs.Ends.{MailboxEnds}
 use Rattle.pl_queue.specs.Views.{fresh_sends, fresh_takes}
@@ -8,7 +8,6 @@ use Rattle.pl_outbox.specs.declared.inbox.Inbox.{Inbox}
 use Rattle.pl_threads_tests.specs.Nodes.{IsFresh, NodeStands, lane_to}
 use Rattle.pl_threads_tests.specs.declared.nodes.Node.{Node}
 use Rattle.pl_threads_tests.specs.declared.nodes.Outlet.{Outlet}
-use Rattle.pl_threads_tests.specs.declared.places.Inboxes.{Inboxes}
 use Rattle.pl_threads_tests.specs.declared.places.Own.{Own}
 use Rattle.pl_threads_tests.specs.declared.places.Place.{Place}
 use Rattle.pl_threads_tests.specs.declared.places.Places.{Places}
@@ -17,9 +16,6 @@ use Rattle.pl_threads_tests.specs.declared.places.Way.{Way}
 -- Executor 2 makes flags for both others, and executor 0 for executor 2.
 abbrev pub makes_for : ℕ → ℕ → List Lane
 makes_for executor target = cond ((executor == 2) && not (target == 2)) (lane_to target ∷ []) (cond ((executor == 0) && (target == 2)) (lane_to target ∷ []) [])
-
-abbrev pub inbox_of : {W M S T : Type 0} → Inboxes W M S T → ℕ → Inbox W M S T
-inbox_of inboxes executor = cond (executor == 0) inboxes.first (cond (executor == 1) inboxes.second inboxes.third)
 
 module _ {W M S T : Type 0} (ends : MailboxEnds M S T) where
   -- A way to an inbox on these lanes. Nothing was sent, and nothing was admitted.
@@ -42,14 +38,16 @@ module _ {W M S T : Type 0} (ends : MailboxEnds M S T) where
     pub never : IsWay inbox [] third
 
   -- What an executor has of the inboxes before its first turn.
-  pub record IsPlace (inboxes : Inboxes W M S T) (executor : ℕ) (place : Place W M S T) : Type 0 where
-    pub own : IsOwn (inbox_of inboxes executor) executor place.own
-    pub first : IsWay inboxes.first (makes_for executor 0) place.first
-    pub second : IsWay inboxes.second (makes_for executor 1) place.second
-    pub third : IsWay inboxes.third (makes_for executor 2) place.third
+  pub record IsPlace (inboxes : List (Inbox W M S T)) (executor : ℕ) (place : Place W M S T) : Type 0 where
+    pub three : length inboxes ≡ 3
+    pub there : executor < 3
+    pub own : (inbox : Inbox W M S T) → slice_get inboxes executor ≡ Some inbox → IsOwn inbox executor place.own
+    pub first : (inbox : Inbox W M S T) → slice_get inboxes 0 ≡ Some inbox → IsWay inbox (makes_for executor 0) place.first
+    pub second : (inbox : Inbox W M S T) → slice_get inboxes 1 ≡ Some inbox → IsWay inbox (makes_for executor 1) place.second
+    pub third : (inbox : Inbox W M S T) → slice_get inboxes 2 ≡ Some inbox → IsWay inbox (makes_for executor 2) place.third
 
   -- What executors 0, 1 and 2 have of them.
-  pub record ArePlaces (inboxes : Inboxes W M S T) (places : Places W M S T) : Type 0 where
+  pub record ArePlaces (inboxes : List (Inbox W M S T)) (places : Places W M S T) : Type 0 where
     pub of_first : IsPlace inboxes 0 places.first
     pub of_second : IsPlace inboxes 1 places.second
     pub of_third : IsPlace inboxes 2 places.third

@@ -2,7 +2,6 @@
 
 use crossbeam_utils::sync::Parker;
 use pl_event::Named;
-use pl_outbox::Inbox;
 use pl_queue::Mailbox;
 use pl_words::{OwnerSeat, SendSeat};
 
@@ -19,14 +18,6 @@ pub(crate) struct Own<W: Named, M: Mailbox<W>> {
     pub(crate) parker: Parker,
     pub(crate) taker: M::Taker,
     pub(crate) owner: OwnerSeat,
-}
-
-/// The inboxes of three executors.
-#[derive(Drop)]
-pub(crate) struct Inboxes<W: Named, M: Mailbox<W> + Drop> {
-    pub(crate) first: Inbox<W, M>,
-    pub(crate) second: Inbox<W, M>,
-    pub(crate) third: Inbox<W, M>,
 }
 
 /// What an executor has of three inboxes: its own ends, and the ways to all.

@@ -14,12 +14,12 @@ use Rattle.clap.specs.declared.error.kind.ErrorKind.{ErrorKind}
 use Rattle.clap.specs.declared.parser.matches.Found.{Found}
 use Rattle.pl_tool.specs.ProgramLines.{RequestView, Replay, Run, has_dash, program, queue_named, request_of, request_of_subcommand}
 
-map_drop : (words : List (String Global)) → map string_bytes (drop 1 words) ≡ drop 1 (map string_bytes words)
+map_drop : (args : List (String Global)) → map string_bytes (drop 1 args) ≡ drop 1 (map string_bytes args)
 map_drop [] = refl
 map_drop (w ∷ ws) = refl
 
-has_dash_is : (words : List (String Global)) → list_any (λ w. bytes_eq (codes "-") (string_bytes w)) (drop 1 words) ≡ has_dash (map string_bytes words)
-has_dash_is words = list_any-map (bytes_eq (codes "-")) string_bytes (drop 1 words) ∙ ap (list_any (bytes_eq (codes "-"))) (map_drop words)
+has_dash_is : (args : List (String Global)) → list_any (λ w. bytes_eq (codes "-") (string_bytes w)) (drop 1 args) ≡ has_dash (map string_bytes args)
+has_dash_is args = list_any-map (bytes_eq (codes "-")) string_bytes (drop 1 args) ∙ ap (list_any (bytes_eq (codes "-"))) (map_drop args)
 
 -- ---- the option of a subcommand
 
@@ -57,25 +57,25 @@ no_request dash [] found k h = absurd h
 no_request true (x ∷ xs) found k h = refl
 no_request false (x ∷ xs) found k h = ap (λ (b : Bool). if b then found else None) (is_some_fault x xs)
 
-request_is : (words : List (String Global)) → request_of (map string_bytes words)
-    ≡ request_if (list_any (λ w. bytes_eq (codes "-") (string_bytes w)) (drop 1 words)) (fault_of program (map string_bytes words)) (option_and_then request_of_subcommand (subcommand_of program (map string_bytes words)))
+request_is : (args : List (String Global)) → request_of (map string_bytes args)
+    ≡ request_if (list_any (λ w. bytes_eq (codes "-") (string_bytes w)) (drop 1 args)) (fault_of program (map string_bytes args)) (option_and_then request_of_subcommand (subcommand_of program (map string_bytes args)))
 unfolding request_if
-request_is words = ap (λ (b : Bool). request_if b (fault_of program (map string_bytes words)) (option_and_then request_of_subcommand (subcommand_of program (map string_bytes words)))) (sym (has_dash_is words))
+request_is args = ap (λ (b : Bool). request_if b (fault_of program (map string_bytes args)) (option_and_then request_of_subcommand (subcommand_of program (map string_bytes args)))) (sym (has_dash_is args))
 
 -- a line with a lone -
-pub dash_is_refused : (words : List (String Global)) → list_any (λ w. bytes_eq (codes "-") (string_bytes w)) (drop 1 words) ≡ true → None ≡ request_of (map string_bytes words)
+pub dash_is_refused : (args : List (String Global)) → list_any (λ w. bytes_eq (codes "-") (string_bytes w)) (drop 1 args) ≡ true → None ≡ request_of (map string_bytes args)
 unfolding request_if
-dash_is_refused words dash = sym (request_is words ∙ ap (λ (b : Bool). request_if b (fault_of program (map string_bytes words)) (option_and_then request_of_subcommand (subcommand_of program (map string_bytes words)))) dash)
+dash_is_refused args dash = sym (request_is args ∙ ap (λ (b : Bool). request_if b (fault_of program (map string_bytes args)) (option_and_then request_of_subcommand (subcommand_of program (map string_bytes args)))) dash)
 
 -- a line of which clap has a fault to tell
-pub fault_is_refused : (words : List (String Global)) (k : ErrorKind) → IsAmong k (fault_of program (map string_bytes words)) → None ≡ request_of (map string_bytes words)
-fault_is_refused words k among = sym (request_is words ∙ no_request _ _ _ k among)
+pub fault_is_refused : (args : List (String Global)) (k : ErrorKind) → IsAmong k (fault_of program (map string_bytes args)) → None ≡ request_of (map string_bytes args)
+fault_is_refused args k among = sym (request_is args ∙ no_request _ _ _ k among)
 
 -- a line that is read
-pub line_is_read : (words : List (String Global)) (dash : Bool) (rows : Option (Text × List Row)) (request : Option RequestView) → request ≡ option_and_then request_of_subcommand rows
-    → rows ≡ subcommand_of program (map string_bytes words) → fault_of program (map string_bytes words) ≡ []
-    → dash ≡ list_any (λ w. bytes_eq (codes "-") (string_bytes w)) (drop 1 words) → dash ≡ false → request ≡ request_of (map string_bytes words)
+pub line_is_read : (args : List (String Global)) (dash : Bool) (rows : Option (Text × List Row)) (request : Option RequestView) → request ≡ option_and_then request_of_subcommand rows
+    → rows ≡ subcommand_of program (map string_bytes args) → fault_of program (map string_bytes args) ≡ []
+    → dash ≡ list_any (λ w. bytes_eq (codes "-") (string_bytes w)) (drop 1 args) → dash ≡ false → request ≡ request_of (map string_bytes args)
 unfolding request_if
-line_is_read words dash rows request requested is no_fault dash_is no_dash =
+line_is_read args dash rows request requested is no_fault dash_is no_dash =
     requested ∙ ap (option_and_then request_of_subcommand) is
-    ∙ sym (request_is words ∙ ap₂ (λ (b : Bool) (f : Kinds). request_if b f (option_and_then request_of_subcommand (subcommand_of program (map string_bytes words)))) (sym dash_is ∙ no_dash) no_fault)
+    ∙ sym (request_is args ∙ ap₂ (λ (b : Bool) (f : Kinds). request_if b f (option_and_then request_of_subcommand (subcommand_of program (map string_bytes args)))) (sym dash_is ∙ no_dash) no_fault)

@@ -42,10 +42,10 @@ abbrev pub failure_of_print : PrintFault → Failure
 failure_of_print print.Memory = Memory
 failure_of_print print.Output = Output
 
--- The failure of words that cannot be taken. They are a command line that is not read, unless memory ran out.
-abbrev pub failure_of_words : ErrorKind → Failure
-failure_of_words OutOfMemory = Memory
-failure_of_words _ = Usage
+-- The failure of arguments that cannot be taken. They are a command line that is not read, unless memory ran out.
+abbrev pub failure_of_args : ErrorKind → Failure
+failure_of_args OutOfMemory = Memory
+failure_of_args _ = Usage
 
 -- a read that was interrupted is made again
 abbrev pub failure_of_read : ErrorKind → Option Failure

@@ -62,14 +62,14 @@ request_of_subcommand found =
     else if bytes_eq (codes "run") found.0 then run_request found.1
     else if bytes_eq (codes "plain") found.0 then Some Plain else None
 
--- a line that is read has no lone - among its words
+-- a line that is read has no lone - among its arguments
 abbrev pub has_dash : List Text → Bool
-has_dash words = list_any (bytes_eq (codes "-")) (drop 1 words)
+has_dash args = list_any (bytes_eq (codes "-")) (drop 1 args)
 
--- clap has no fault to find with the line, and no word of it is a lone -
+-- clap has no fault to find with the line, and no argument of it is a lone -
 abbrev pub is_read : List Text → Bool
-is_read words = not (has_dash words) && is_empty (fault_of program words)
+is_read args = not (has_dash args) && is_empty (fault_of program args)
 
--- What a command line requests (FORMATS). Its first word is the program's name.
+-- What a command line requests (FORMATS). Its first argument is the program's name.
 abbrev pub request_of : List Text → Option RequestView
-request_of words = if is_read words then option_and_then request_of_subcommand (subcommand_of program words) else None
+request_of args = if is_read args then option_and_then request_of_subcommand (subcommand_of program args) else None

@@ -4,4 +4,4 @@
 
 mod program;
 
-pub use program::{MAX_INPUT, refuse_words, run_tool};
+pub use program::{MAX_INPUT, refuse_args, run_tool};

@@ -4,7 +4,7 @@ ghost use Rattle.std.specs.Prelude.{◌≡◌, ◌≢◌, ◌⊎◌, ◌≤◌, 
 ghost use Rattle.std.specs.IoError.{error_kind};
 ghost use Rattle.std.specs.Io.KnownBytes.{Keeps};
 ghost use Rattle.pl_tool.specs.declared.program.failure.Failure.TheVariants as failure;
-ghost use Rattle.pl_tool.specs.ProgramFailures.{failure_line, failure_of_words, status_of};
+ghost use Rattle.pl_tool.specs.ProgramFailures.{failure_line, failure_of_args, status_of};
 ghost use Rattle.pl_tool.specs.ProgramLines.{Plain, Replay, Run, request_of, request_view};
 ghost use Rattle.pl_tool.specs.ProgramOutcomes.{AppendsPrefixOf, Explains, HasFailed, HasPrinted, IsCause, IsReported, TakesAtMost, all_drained};
 
@@ -38,11 +38,11 @@ impl Gate for NoGate {
 }
 
 /// What the command line requests. Out of memory inside `clap` counts as a line that is not read.
-fn request_or_usage<'a>(alloc: Global, words: &'a [String]) -> Result<Request<'a>, Failure>
-    ensures ok { IfOk result (λ request. request_of (map string_bytes words.entry.now) ≡ Some (request_view request)) }
+fn request_or_usage<'a>(alloc: Global, args: &'a [String]) -> Result<Request<'a>, Failure>
+    ensures ok { IfOk result (λ request. request_of (map string_bytes args.entry.now) ≡ Some (request_view request)) }
     ensures err { IfErr result (λ e. e ≡ failure.Usage) }
 {
-    request_of(alloc, words)
+    request_of(alloc, args)
         .unwrap_or(None)
         .ok_or(Failure::Usage)
 }
@@ -120,23 +120,23 @@ fn all_drained(report: &Report) -> bool
 fn print_requested<T: Threads + Wait + Sync, R: Read, W: Write>(
     rt: &T,
     alloc: Global,
-    words: &[String],
+    args: &[String],
     reader: &mut R,
     out: &mut W,
 ) -> Result<bool, Failure>
-    ensures ok { IfOk result (λ drained. HasPrinted drained (request_of (map string_bytes words.now))
+    ensures ok { IfOk result (λ drained. HasPrinted drained (request_of (map string_bytes args.now))
         (R.remaining reader.old) (R.remaining reader.new) (W.contents out.old) (W.contents out.new)) }
-    ensures err { IfErr result (λ e. Explains e (request_of (map string_bytes words.now))
+    ensures err { IfErr result (λ e. Explains e (request_of (map string_bytes args.now))
         (R.remaining reader.old) (R.remaining reader.new) (W.contents out.old) (W.contents out.new)) }
     ensures at_most { TakesAtMost MAX_INPUT (R.remaining reader.old) (R.remaining reader.new) }
 {
-    let request = request_or_usage(alloc, words)?;
+    let request = request_or_usage(alloc, args)?;
     let report = report_of(rt, alloc, request, reader)?;
     print_report(alloc, &report, out)?;
     Ok(all_drained(&report))
 }
 
-/// The program (`docs/FORMATS.md`, "Program"): reads the command line `words`, of which the first is the program's
+/// The program (`docs/FORMATS.md`, "Program"): reads the command line `args`, of which the first is the program's
 /// name, then the moves of a `replay`, then a session from the reader. It replays the session by these moves, runs it by
 /// executors in threads for `run` or, for `plain`, takes it whole, and writes the text of the report to `out`. A transport
 /// that fails, an abort, and a growth that is refused in a move do not end the replay or the run: the report tells what
@@ -160,44 +160,44 @@ fn print_requested<T: Threads + Wait + Sync, R: Read, W: Write>(
 pub fn run_tool<T: Threads + Wait + Sync, R: Read, W: Write, E: Write>(
     rt: &T,
     alloc: Global,
-    words: &[String],
+    args: &[String],
     reader: &mut R,
     out: &mut W,
     err: &mut E,
 ) -> u8
-    ensures drained { result ≡ 0 → HasPrinted true (request_of (map string_bytes words.now))
+    ensures drained { result ≡ 0 → HasPrinted true (request_of (map string_bytes args.now))
         (R.remaining reader.old) (R.remaining reader.new) (W.contents out.old) (W.contents out.new) }
-    ensures not_drained { result ≡ 1 → HasPrinted false (request_of (map string_bytes words.now))
+    ensures not_drained { result ≡ 1 → HasPrinted false (request_of (map string_bytes args.now))
         (R.remaining reader.old) (R.remaining reader.new) (W.contents out.old) (W.contents out.new) }
-    ensures whole { result ≡ 1 → request_of (map string_bytes words.now) ≢ Some Plain }
+    ensures whole { result ≡ 1 → request_of (map string_bytes args.now) ≢ Some Plain }
     ensures silent { (result ≡ 0) ⊎ (result ≡ 1) → Keeps (E.contents err.old) (E.contents err.new) }
 
     // Each other status is that of a failure which the line, the moves and what was read explain, and `err` got a
     // beginning of the line of that failure.
-    ensures failed { 2 ≤ result → HasFailed result (request_of (map string_bytes words.now))
+    ensures failed { 2 ≤ result → HasFailed result (request_of (map string_bytes args.now))
         (R.remaining reader.old) (R.remaining reader.new) (W.contents out.old) (W.contents out.new)
         (E.contents err.old) (E.contents err.new) }
 
     // A line that is not read has no other status, whatever memory there is.
-    ensures unread { request_of (map string_bytes words.now) ≡ None → result ≡ 2 }
+    ensures unread { request_of (map string_bytes args.now) ≡ None → result ≡ 2 }
 
     // Whatever the status, one byte more than a session text may have is all that is taken.
     ensures at_most { TakesAtMost MAX_INPUT (R.remaining reader.old) (R.remaining reader.new) }
 {
-    match print_requested(rt, alloc, words, reader, out) {
+    match print_requested(rt, alloc, args, reader, out) {
         Ok(true) => 0,
         Ok(false) => 1,
         Err(failure) => say_last(failure, err),
     }
 }
 
-/// How the program ends where its words could not be taken from the system, by the error of that: with status 4 where
-/// it ran out of memory, and else, as where a word is not UTF-8, with status 2. The line of that goes to `err`, which
+/// How the program ends where its arguments could not be taken from the system, by the error of that: with status 4 where
+/// it ran out of memory, and else, as where one is not UTF-8, with status 2. The line of that goes to `err`, which
 /// may fail as that of `run_tool` may.
-pub fn refuse_words<E: Write>(error: &io::Error, err: &mut E) -> u8
-    ensures status { result ≡ status_of (failure_of_words (error_kind error.now)) }
-    ensures said { AppendsPrefixOf (failure_line (failure_of_words (error_kind error.now)))
+pub fn refuse_args<E: Write>(error: &io::Error, err: &mut E) -> u8
+    ensures status { result ≡ status_of (failure_of_args (error_kind error.now)) }
+    ensures said { AppendsPrefixOf (failure_line (failure_of_args (error_kind error.now)))
         (E.contents err.old) (E.contents err.new) }
 {
-    say_last(Failure::of_words(error), err)
+    say_last(Failure::of_args(error), err)
 }

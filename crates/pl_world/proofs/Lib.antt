@@ -1,5 +1,5 @@
 pub mod ChainSteps
-pub mod Parting
+pub mod SplitChains
 pub mod PlannedCalls
 pub mod PlannedReports
 pub mod PathLanes

@@ -1,4 +1,4 @@
--- What the lanes of an inbound chain bring that is parted at its turn.
+-- What the lanes of an inbound chain bring that is split at its turn.
 use Rattle.std.proofs.Common.{◌≡◌, List, [], ◌∷◌, ◌++◌, false, true, refl, ap, ◌∙◌}
 use Rattle.std.specs.List.{list_any}
 use Rattle.pl_event.specs.declared.events.Event.{Event}

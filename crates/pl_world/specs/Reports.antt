@@ -147,7 +147,7 @@ failed_calls (Some Refused) = 0
 -- the window is known, just what so many calls of it accept.
 pub record CallsKeepToPlan (p : ChannelPlan) (failure : Option Cause) (calls accepted : ℕ) : Type 0 where
   pub failed : failure ≡ Some Transport → 0 < calls
-  pub told : (k : ℕ) → p.fail_at ≡ Some k → 0 < k → k < 2 ^ 64 → calls - failed_calls failure < k
+  pub fails_there : (k : ℕ) → p.fail_at ≡ Some k → 0 < k → k < 2 ^ 64 → calls - failed_calls failure < k
   pub most : accepted ≤ most_by (flushed_writes (head_of p)) (calls - failed_calls failure)
   pub window : (w : ℕ) → p.window ≡ Some w → accepted ≡ accepted_by w (flushed_writes (head_of p)) (calls - failed_calls failure)
 

@@ -8,11 +8,11 @@ ghost use Rattle.pl_world.specs.Reports.{whole_report};
 
 use crate::chains::{feed_down, feed_up, pass};
 use crate::faults::ReplayFault;
-use crate::parted::{Parted, part};
 use crate::recorded_events::recorded_events;
 use crate::report::{ChannelReport, Report, Stands};
 use crate::session::{Recorded, Session};
-use crate::settling::settled;
+use crate::settling::settle_writes;
+use crate::split_chain::{SplitChain, split_chain};
 use crate::worlds::World;
 use pl_event::{Sequence, Stage};
 use pl_head::{MemoryTransport, Transport};
@@ -76,17 +76,17 @@ fn whole<S: Stage, T: Transport>(
     } = recorded;
     let hop = pipeline.turn() as usize;
     let (inbound, outbound) = pipeline.into_chains();
-    let Parted {
+    let SplitChain {
         before,
         turn,
         after,
-    } = part(inbound, hop)?;
+    } = split_chain(inbound, hop)?;
     let events = recorded_events(alloc, input.bursts)?;
     let at_turn = feed_up(alloc, before, events)?;
     let made = pass(alloc, turn, at_turn)?;
     let at_tail = feed_up(alloc, after, made.up)?;
     let at_head = feed_down(alloc, outbound, made.down)?;
-    let (bytes, writes) = settled(alloc, at_head)?;
+    let (bytes, writes) = settle_writes(alloc, at_head)?;
     Ok(ChannelReport {
         stands: Stands::Drained,
         tail: Sequence::from_vec(at_tail),

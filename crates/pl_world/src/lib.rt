@@ -7,11 +7,11 @@ mod composing;
 mod faults;
 mod limits;
 mod moves;
-mod parted;
 mod recorded_events;
 mod report;
 mod session;
 mod settling;
+mod split_chain;
 mod worlds;
 
 pub use composing::{plain, plain_world};

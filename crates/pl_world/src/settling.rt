@@ -12,12 +12,12 @@ use std::mem;
 /// The bytes of a head's lane and the outcome of each of its writes, when all that is flushed is written and the rest is
 /// closed.
 #[tactic(auto, using(crate::proofs::SettledWrites::outcomes_end))]
-pub(crate) fn settled(
+pub(crate) fn settle_writes(
     alloc: Global,
     events: Vec<Event>,
 ) -> Result<(ByteString, Sequence<Option<Outcome>>), AllocError>
-    ensures bytes { IfOk result (λ parts. parts.0 ≡ out events.items) }
-    ensures outcomes { IfOk result (λ parts. parts.1 ≡ outcomes events.items (length (out events.items)) true) }
+    ensures bytes { IfOk result (λ made. made.0 ≡ out events.items) }
+    ensures outcomes { IfOk result (λ made. made.1 ≡ outcomes events.items (length (out events.items)) true) }
 {
     let mut writes = Writes {
         alloc,
@@ -82,8 +82,8 @@ impl Writes {
 
     /// The bytes, and the outcome of each write. What is unflushed is closed.
     fn close(self) -> Result<(ByteString, Sequence<Option<Outcome>>), AllocError>
-        ensures bytes { IfOk result (λ parts. parts.0 ≡ self.bytes.items) }
-        ensures outcomes { IfOk result (λ parts. parts.1 ≡ self.outcomes.items ++ map (late_outcome Closed) self.unflushed.items) }
+        ensures bytes { IfOk result (λ made. made.0 ≡ self.bytes.items) }
+        ensures outcomes { IfOk result (λ made. made.1 ≡ self.outcomes.items ++ map (late_outcome Closed) self.unflushed.items) }
     {
         let Writes {
             bytes,

@@ -116,40 +116,40 @@ fn slow_second_writer(rt: HostRuntime) -> Result<(), Fail> {
 }
 
 /// Whether a writer that fails after so many bytes of the session's report ends the program with status 4.
-fn is_output_refused(rt: &impl Runtime, word: &str, room: usize) -> Result<bool, Fail> {
+fn is_output_refused(rt: &impl Runtime, arg: &str, room: usize) -> Result<bool, Fail> {
     let mut reader = PING_SESSION.as_bytes();
     let mut out = Failing { room };
     let mut err = Vec::new(rt.alloc());
-    let status = status_of(rt, &[word], &mut reader, &mut out, &mut err)?;
+    let status = status_of(rt, &[arg], &mut reader, &mut out, &mut err)?;
     Ok(status == 4 && out.room == 0 && err.as_slice() == b"output refused\n".as_slice())
 }
 
 #[test]
 fn writes(rt: HostRuntime) -> Result<(), Fail> {
-    for (word, room) in [("replay", 0), ("replay", 1), ("replay", 20), ("plain", 20)] {
-        let is_refused = is_output_refused(&rt, word, room)?;
-        assert!(rt; is_refused, "{word} after {room}");
+    for (arg, room) in [("replay", 0), ("replay", 1), ("replay", 20), ("plain", 20)] {
+        let is_refused = is_output_refused(&rt, arg, room)?;
+        assert!(rt; is_refused, "{arg} after {room}");
     }
     Ok(())
 }
 
-/// The status of a line of one word whose second writer takes nothing.
+/// The status of a line of one argument whose second writer takes nothing.
 fn status_untold<W: Write>(
     rt: &impl Runtime,
-    word: &str,
+    arg: &str,
     input: &[u8],
     out: &mut W,
 ) -> Result<u8, Fail> {
     let mut reader = input;
     let mut err = Failing { room: 0 };
-    status_of(rt, &[word], &mut reader, out, &mut err)
+    status_of(rt, &[arg], &mut reader, out, &mut err)
 }
 
 #[test]
 fn second_writer(rt: HostRuntime) -> Result<(), Fail> {
-    for (word, want) in [("fly", 2), ("replay", 3)] {
+    for (arg, want) in [("fly", 2), ("replay", 3)] {
         let mut out = Vec::new(rt.alloc());
-        assert_eq!(rt; status_untold(&rt, word, b"", &mut out)?, want);
+        assert_eq!(rt; status_untold(&rt, arg, b"", &mut out)?, want);
         assert_eq!(rt; out.len(), 0);
     }
     let mut out = Failing { room: 0 };

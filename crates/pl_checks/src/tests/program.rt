@@ -1,4 +1,4 @@
-//! The program on any words and inputs: its statuses, its lines on standard error, and what it leaves of its input.
+//! The program on any arguments and inputs: its statuses, its lines on standard error, and what it leaves of its input.
 
 use crate::tests::running::{Runtime, answers, answers_on, replays};
 use crate::tests::streams::Failing;
@@ -6,7 +6,7 @@ use pl_build::BuildFault;
 use pl_replay::replay;
 use pl_text::{MovesFault, SessionFault, read_moves, read_session};
 use pl_text_tests::{PING_REPORT, PING_SESSION};
-use pl_tool::refuse_words;
+use pl_tool::refuse_args;
 use pl_world::ReplayFault;
 use std::alloc::Global;
 use std::io;
@@ -263,16 +263,16 @@ fn refused_builds(rt: HostRuntime) -> Result<(), Fail> {
 }
 
 #[test]
-fn refused_words(rt: HostRuntime) -> Result<(), Fail> {
+fn refused_args(rt: HostRuntime) -> Result<(), Fail> {
     for (kind, want, told) in [
         (ErrorKind::OutOfMemory, 4, "out of memory\n"),
         (ErrorKind::InvalidData, 2, USAGE),
     ] {
         let mut err = Vec::new(rt.alloc());
         let error = io::Error::from(kind);
-        assert_eq!(rt; refuse_words(&error, &mut err), want);
+        assert_eq!(rt; refuse_args(&error, &mut err), want);
         assert_eq!(rt; err.as_slice(), told.as_bytes());
-        assert_eq!(rt; refuse_words(&error, &mut Failing { room: 5 }), want);
+        assert_eq!(rt; refuse_args(&error, &mut Failing { room: 5 }), want);
     }
     Ok(())
 }

@@ -21,14 +21,14 @@ pub(crate) struct Ran {
     pub(crate) err: Vec<u8>,
 }
 
-/// The words of a command line, of which the first is the program's name.
-fn words(alloc: Global, line: &[&str]) -> Result<Vec<String>, AllocError> {
-    let mut words = Vec::new(alloc);
-    add(&mut words, String::from_str(alloc, "pl_tool"))?;
-    for word in line {
-        add(&mut words, String::from_str(alloc, word))?;
+/// The arguments of a command line, of which the first is the program's name.
+fn args(alloc: Global, line: &[&str]) -> Result<Vec<String>, AllocError> {
+    let mut args = Vec::new(alloc);
+    add(&mut args, String::from_str(alloc, "pl_tool"))?;
+    for arg in line {
+        add(&mut args, String::from_str(alloc, arg))?;
     }
-    Ok(words)
+    Ok(args)
 }
 
 /// Runs the program on a reader and two writers, and gives the status.
@@ -39,8 +39,8 @@ pub(crate) fn status_of<R: Read, W: Write, E: Write>(
     out: &mut W,
     err: &mut E,
 ) -> Result<u8, Fail> {
-    let words = words(rt.alloc(), line)?;
-    Ok(run_tool(rt, rt.alloc(), words.as_slice(), reader, out, err))
+    let args = args(rt.alloc(), line)?;
+    Ok(run_tool(rt, rt.alloc(), args.as_slice(), reader, out, err))
 }
 
 /// The same, and what it wrote to each writer.

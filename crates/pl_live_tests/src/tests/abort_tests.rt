@@ -1,16 +1,13 @@
 //! Channels that are aborted.
 
 use crate::tests::closed_tests::assert_closed;
-use crate::tests::handed::{CLOSED, SUCCESS, Seen, assert_handed, assert_report, assert_stands};
+use crate::tests::handed::{Seen, assert_handed, assert_stands};
 use crate::tests::held_tests::{SENT, fed_ten};
 use crate::tests::sessions::{Channel, WIDE, channel_of, slow_channel_of};
-use pl_event::{Cause, Outcome};
+use pl_event::Cause;
 use pl_text_tests::PING_SESSION;
-use pl_world::Stands;
 use std::process::Abort;
 use std::test::Fail;
-
-const ABORTED: Stands = Stands::Failed(Cause::Aborted);
 
 /// `PING` in two bursts.
 const BURSTS: [&[u8]; 2] = [b"PI", b"NG\n"];
@@ -29,7 +26,6 @@ fn assert_aborted(
     fed: &mut Channel,
     tail: &[Seen],
     bytes: &[u8],
-    writes: &[Option<Outcome>],
 ) -> Result<(), Fail> {
     fed.take_all()?;
     assert_handed(rt, fed, tail, bytes);
@@ -38,39 +34,40 @@ fn assert_aborted(
     fed.live.abort();
     assert_closed(rt, fed)?;
     assert_stands(rt, fed, false, true, Some(Cause::Aborted));
-    assert_report(rt, fed, (ABORTED, tail, bytes, writes))
+    Ok(())
 }
 
-/// After how many bursts a channel is aborted, what it has handed out then, and how its writes end.
-const ABORTS: [(usize, &[Seen], &[u8], &[Option<Outcome>]); 3] = [
-    (0, &[Seen::Active], b"", &[]),
-    (1, &[Seen::Active, Seen::ReadComplete], b"", &[]),
-    (2, &TAIL, b"+PONG\r\n", &[SUCCESS]),
+/// After how many bursts a channel is aborted, and what it has handed out then.
+const ABORTS: [(usize, &[Seen], &[u8]); 3] = [
+    (0, &[Seen::Active], b""),
+    (1, &[Seen::Active, Seen::ReadComplete], b""),
+    (2, &TAIL, b"+PONG\r\n"),
 ];
 
 /// What was made of the bursts before the abort is handed out, and nothing behind it.
 #[test]
 fn abort_after_each_burst(rt: HostRuntime) -> Result<(), Fail> {
-    for &(count, tail, bytes, writes) in &ABORTS {
+    for &(count, tail, bytes) in &ABORTS {
         let mut fed = channel_of(rt.alloc(), PING_SESSION, WIDE, None)?;
         for burst in BURSTS.iter().take(count) {
             fed.feed(&[burst])?;
         }
         fed.live.abort();
         assert_stands(&rt, &fed, false, true, Some(Cause::Aborted));
-        assert_aborted(&rt, &mut fed, tail, bytes, writes)?;
+        assert_aborted(&rt, &mut fed, tail, bytes)?;
     }
     Ok(())
 }
 
-/// A write whose bytes wait is closed.
+/// A write whose bytes wait is not sent.
 #[test]
 fn abort_before_the_write(rt: HostRuntime) -> Result<(), Fail> {
     let mut fed = slow_channel_of(rt.alloc(), PING_SESSION)?;
     fed.feed(&[b"PING\r\n"])?;
     fed.live.abort();
+    fed.take_all()?;
     let tail = [Seen::Active, Seen::Ping, Seen::ReadComplete];
-    assert_report(&rt, &fed, (ABORTED, &tail, b"", &[CLOSED]))?;
+    assert_handed(&rt, &fed, &tail, b"");
     assert_stands(&rt, &fed, false, true, Some(Cause::Aborted));
     Ok(())
 }

@@ -9,7 +9,7 @@ use crate::tests::sessions::{
 };
 use pl_event::{Command, Element, Event, Message};
 use pl_live::FeedFault;
-use pl_world::{ChannelReport, Stands};
+use pl_world::ChannelReport;
 use std::alloc::Global;
 use std::process::Abort;
 use std::test::Fail;
@@ -54,17 +54,6 @@ fn assert_whole(rt: &impl Abort, fed: &Channel, whole: &ChannelReport, text: &st
     assert!(rt; fed.bytes.as_slice() == whole.bytes.as_slice(), "{text}");
 }
 
-/// Asserts that a report is the whole one.
-fn assert_drained(rt: &impl Abort, report: &ChannelReport, whole: &ChannelReport, text: &str) {
-    assert!(rt; report.stands == Stands::Drained, "{text}");
-    assert!(rt; report.tail.as_slice() == whole.tail.as_slice(), "{text}");
-    assert!(rt; report.bytes.as_slice() == whole.bytes.as_slice(), "{text}");
-    assert!(rt;
-        report.writes.as_slice() == whole.writes.as_slice(),
-        "{text}"
-    );
-}
-
 /// Asserts that a channel whose end is said is over, and has handed out all.
 fn assert_over(
     rt: &impl Abort,
@@ -76,7 +65,6 @@ fn assert_over(
     fed.take_all()?;
     assert_whole(rt, fed, whole, text);
     assert!(rt; fed.live.is_done() && fed.live.cause().is_none(), "{text}");
-    assert_drained(rt, &fed.live.report(fed.alloc)?, whole, text);
     Ok(())
 }
 

@@ -1,14 +1,14 @@
 //! What comes of what was fed, however it was cut.
 
 use crate::tests::cutting::{burst_of, chunk};
-use crate::tests::handed::{SUCCESS, Seen, assert_handed, assert_report, assert_stands};
+use crate::tests::handed::{Seen, assert_handed, assert_stands};
 use crate::tests::sessions::{
     Channel, WIDE, channel_of, memory_transport, recorded, slow_channel_of,
 };
 use pl_event::{Caught, Element, Event};
 use pl_live::Live;
 use pl_text_tests::PING_SESSION;
-use pl_world::{Recorded, Stands, WorldRefusal};
+use pl_world::{Recorded, WorldRefusal};
 use std::alloc::Global;
 use std::process::Abort;
 use std::test::Fail;
@@ -57,11 +57,11 @@ fn live_ping(rt: HostRuntime) -> Result<(), Fail> {
 fn no_event_is_left(rt: HostRuntime) -> Result<(), Fail> {
     let mut fed = line_channel(rt.alloc())?;
     fed.take_events(1)?;
-    assert!(rt; fed.live.next_event()?.is_none());
-    assert!(rt; fed.live.next_event()?.is_none());
+    assert!(rt; fed.live.next_event().is_none());
+    assert!(rt; fed.live.next_event().is_none());
     fed.feed(&[b"PING\r\n"])?;
     fed.take_events(2)?;
-    assert!(rt; fed.live.next_event()?.is_none());
+    assert!(rt; fed.live.next_event().is_none());
     assert_handed(&rt, &fed, &PING_TAIL, b"");
     Ok(())
 }
@@ -78,26 +78,6 @@ fn consumed_in_part(rt: HostRuntime) -> Result<(), Fail> {
     assert_eq!(rt; fed.take_output(100)?, 11);
     assert_eq!(rt; fed.live.pending_output(), b"".as_slice());
     Ok(())
-}
-
-/// The report says how the channel stands so far, whatever was handed out, and the channel goes on.
-#[test]
-fn report_while_fed(rt: HostRuntime) -> Result<(), Fail> {
-    let mut fed = line_channel(rt.alloc())?;
-    assert_report(&rt, &fed, (Stands::Open, &[Seen::Active], b"", &[]))?;
-    fed.feed(&[b"PI"])?;
-    let tail = [
-        Seen::Active,
-        Seen::ReadComplete,
-        Seen::Ping,
-        Seen::ReadComplete,
-    ];
-    assert_report(&rt, &fed, (Stands::Open, &tail[..2], b"", &[]))?;
-    fed.feed(&[b"NG\n"])?;
-    assert_report(&rt, &fed, (Stands::Open, &tail, PONG, &[SUCCESS]))?;
-    assert_eq!(rt; fed.live.pending_output(), PONG);
-    fed.live.end();
-    assert_report(&rt, &fed, (Stands::Drained, &tail, PONG, &[SUCCESS]))
 }
 
 /// Lines of the worked examples, one after another.

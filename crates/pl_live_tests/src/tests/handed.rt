@@ -1,31 +1,24 @@
 //! Channels that are fed, what they hand out, and what that is to be.
 
 use crate::tests::cutting::burst_of;
-use pl_event::{Caught, Cause, Command, Event, Message, Outcome};
-use pl_head::Transport;
+use pl_event::{Caught, Cause, Command, Event, Message};
+use pl_head::Draining;
 use pl_live::Live;
 use pl_stages::Handler;
-use pl_world::Stands;
 use std::alloc::Global;
 use std::process::Abort;
 use std::test::Fail;
 
-pub(crate) const SUCCESS: Option<Outcome> = Some(Outcome::Success);
-
-pub(crate) const FAULT: Option<Outcome> = Some(Outcome::Fault);
-
-pub(crate) const CLOSED: Option<Outcome> = Some(Outcome::Closed);
-
 /// A live channel, with the events and the bytes that it has handed out, in order.
 #[derive(Drop)]
-pub(crate) struct Fed<T: Transport> {
+pub(crate) struct Fed<T: Draining> {
     pub(crate) alloc: Global,
     pub(crate) live: Live<Handler, T>,
     pub(crate) events: Vec<Event>,
     pub(crate) bytes: Vec<u8>,
 }
 
-impl<T: Transport> Fed<T> {
+impl<T: Draining> Fed<T> {
     pub(crate) fn new(alloc: Global, live: Live<Handler, T>) -> Self {
         Fed {
             alloc,
@@ -44,7 +37,7 @@ impl<T: Transport> Fed<T> {
     /// Takes events, at most so many.
     pub(crate) fn take_events(&mut self, most: u64) -> Result<(), Fail> {
         for _ in 0..most {
-            match self.live.next_event()? {
+            match self.live.next_event() {
                 Some(event) => self.events.push(event)?,
                 None => break,
             }
@@ -122,7 +115,7 @@ pub(crate) fn assert_events(rt: &impl Abort, events: &[Event], want: &[Seen]) {
 }
 
 /// Asserts that this was handed out, and nothing else.
-pub(crate) fn assert_handed<T: Transport>(
+pub(crate) fn assert_handed<T: Draining>(
     rt: &impl Abort,
     fed: &Fed<T>,
     tail: &[Seen],
@@ -133,7 +126,7 @@ pub(crate) fn assert_handed<T: Transport>(
 }
 
 /// Asserts what a channel says of itself: whether it wants a burst, whether it is over, and why it has failed, if it has.
-pub(crate) fn assert_stands<T: Transport>(
+pub(crate) fn assert_stands<T: Draining>(
     rt: &impl Abort,
     fed: &Fed<T>,
     wants_input: bool,
@@ -143,22 +136,4 @@ pub(crate) fn assert_stands<T: Transport>(
     assert_eq!(rt; fed.live.wants_input(), wants_input);
     assert_eq!(rt; fed.live.is_done(), is_done);
     assert_eq!(rt; fed.live.cause(), cause);
-}
-
-/// What a report is to say: how its channel stands, its tail, its bytes, and its writes.
-pub(crate) type Reported<'a> = (Stands, &'a [Seen], &'a [u8], &'a [Option<Outcome>]);
-
-/// Asserts what the report of a channel says.
-pub(crate) fn assert_report<T: Transport>(
-    rt: &impl Abort,
-    fed: &Fed<T>,
-    want: Reported<'_>,
-) -> Result<(), Fail> {
-    let (stands, tail, bytes, writes) = want;
-    let report = fed.live.report(fed.alloc)?;
-    assert_eq!(rt; report.stands, stands);
-    assert_events(rt, report.tail.as_slice(), tail);
-    assert_eq!(rt; report.bytes.as_slice(), bytes);
-    assert_eq!(rt; report.writes.as_slice(), writes);
-    Ok(())
 }

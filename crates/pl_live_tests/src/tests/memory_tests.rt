@@ -89,23 +89,11 @@ fn feed(rt: &impl Abort, alloc: Global, live: &mut Channel, bytes: &[u8]) -> Opt
     Some(())
 }
 
-/// The next event. Where there was no memory for it, it is handed out the next time.
-fn next_event(rt: &impl Abort, live: &mut Channel) -> Option<Event> {
-    match live.next_event() {
-        Ok(event) => event,
-        Err(_) => match live.next_event() {
-            Ok(Some(event)) => Some(event),
-            Ok(None) => panic!(rt; "an event is lost"),
-            Err(_) => panic!(rt; "two allocations are refused"),
-        },
-    }
-}
-
 /// How many events are handed out. They begin what is to come.
-fn events_told(rt: &impl Abort, live: &mut Channel) -> usize {
+fn events_delivered(rt: &impl Abort, live: &mut Channel) -> usize {
     let mut count = 0usize;
     for seen in &TAIL {
-        match next_event(rt, live) {
+        match live.next_event() {
             Some(event) => {
                 assert!(rt; seen.is(&event), "{event:?} is not {seen:?}");
                 drop(event);
@@ -125,11 +113,11 @@ fn is_all_pending(rt: &impl Abort, live: &Channel, want: &[u8]) -> bool {
 }
 
 /// What a channel hands out begins what is to come of all that was fed, and is all of it where it tells no cause.
-fn assert_told(rt: &impl Abort, live: &mut Channel) {
+fn assert_handed_out(rt: &impl Abort, live: &mut Channel) {
     let is_sent = is_all_pending(rt, live, OUTPUT);
-    let is_told = events_told(rt, live) == TAIL.len();
+    let is_delivered = events_delivered(rt, live) == TAIL.len();
     live.end();
-    let is_whole = is_sent && is_told && live.is_done();
+    let is_whole = is_sent && is_delivered && live.is_done();
     assert!(rt; is_whole || live.cause().is_some());
 }
 
@@ -139,7 +127,7 @@ fn plays(rt: &impl Abort, alloc: Global) -> Option<()> {
     for bytes in &INPUT {
         feed(rt, alloc, &mut live, bytes)?;
     }
-    assert_told(rt, &mut live);
+    assert_handed_out(rt, &mut live);
     Some(())
 }
 

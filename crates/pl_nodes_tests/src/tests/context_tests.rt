@@ -589,6 +589,19 @@ fn tail_records(rt: HostRuntime) -> Result<(), Fail> {
     Ok(assert_records_past_its_end(&rt)?)
 }
 
+/// The tail hands its record over, and goes on with an empty one.
+#[test]
+fn tail_hands_its_record_over(rt: HostRuntime) -> Result<(), Fail> {
+    let mut tail = Tail::new(rt.alloc(), 7, 3);
+    assert_records(&rt, &mut tail, &RECORDED)?;
+    assert_recorded(&rt, tail.take_record(rt.alloc()).as_slice());
+    assert!(rt; tail.record().is_empty());
+    assert_records(&rt, &mut tail, &[(Sample::User(5), Took::Ran)])?;
+    let later = [Event::User(5)];
+    assert!(rt; tail.take_record(rt.alloc()).as_slice() == later.as_slice());
+    Ok(())
+}
+
 /// Puts an item of one lane, which has a place.
 fn put(outputs: &mut Outputs, number: u64, item: Item) -> Added
     requires { HasPlaces outputs.old.stopped (sample_lane ∷ []) }
@@ -643,18 +656,18 @@ fn add(backlog: &mut Backlog<u8>, number: u64, token: u8) -> Option<u8>
 }
 
 /// Takes the envelope at a place of a backlog, and answers its number and its token.
-fn take_at(backlog: &mut Backlog<u8>, place: usize) -> Option<(u64, u8)> {
-    let (envelope, token) = backlog.take_at(place)?;
+fn take_at(backlog: &mut Backlog<u8>, index: usize) -> Option<(u64, u8)> {
+    let (envelope, token) = backlog.take_at(index)?;
     let number = envelope.number;
     drop(envelope);
     Some((number, token))
 }
 
 /// Takes the envelope at a place of a backlog and puts it back, and answers its number.
-fn try_at(backlog: &mut Backlog<u8>, place: usize) -> Option<u64> {
-    let (envelope, token) = backlog.take_at(place)?;
+fn try_at(backlog: &mut Backlog<u8>, index: usize) -> Option<u64> {
+    let (envelope, token) = backlog.take_at(index)?;
     let number = envelope.number;
-    backlog.put_back(place, envelope, token);
+    backlog.put_back(index, envelope, token);
     Some(number)
 }
 

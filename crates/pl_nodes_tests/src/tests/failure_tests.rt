@@ -44,7 +44,11 @@ fn assert_lasts<T: Transport>(
 }
 
 /// The settled writes that were not told yet are these.
-fn assert_told<T: Transport>(rt: &impl Abort, head: &mut Head<T>, want: &[(u64, Outcome)]) {
+pub(crate) fn assert_told<T: Transport>(
+    rt: &impl Abort,
+    head: &mut Head<T>,
+    want: &[(u64, Outcome)],
+) {
     for settled in want {
         assert!(rt; head.next_settled() == Some(*settled));
     }

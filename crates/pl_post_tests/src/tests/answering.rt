@@ -93,14 +93,12 @@ fn take_next<W: Named, M: Mailbox<W> + Drop, R: Wait>(
     requires owner { IsOwnerOf M.ends post.now owner.old }
     ensures owner { IsOwnerOf M.ends post.now owner.new }
 {
-    match post.take::<R>(rt, owner) {
-        Some(envelope) => {
-            let number = envelope.number;
-            drop(envelope);
-            Answer::Took(number)
-        }
-        None => Answer::Nothing,
-    }
+    let Some(envelope) = post.take::<R>(rt, owner) else {
+        return Answer::Nothing;
+    };
+    let number = envelope.number;
+    drop(envelope);
+    Answer::Took(number)
 }
 
 // An attempt to close.

@@ -88,32 +88,34 @@ pub fn answers<W: Named, M: Mailbox<W> + Drop, R: Wait>(
     Some(answers)
 }
 
-/// Whether a mailbox of capacity 2 is found full: as it was opened, after two offers, and after a take. None where memory was
-/// refused.
-pub fn found_full<W: Named, M: Mailbox<W> + Drop, R: Wait>(
-    rt: &R,
-    alloc: Global,
-) -> Option<[bool; 3]> {
-    let (mailbox, mut sender, mut taker) = open_one::<W, M>(alloc, lane(0, 0)).ok()?;
-    let opened = mailbox.is_full(&mut sender);
-    let mut next = 0;
-    offer_next::<W, M, R>(rt, &mailbox, &mut sender, &mut next);
-    offer_next::<W, M, R>(rt, &mailbox, &mut sender, &mut next);
-    let offered = mailbox.is_full(&mut sender);
-    take_next::<W, M, R>(rt, &mailbox, &mut taker);
-    let taken = mailbox.is_full(&mut sender);
-    Some([opened, offered, taken])
+// Whether a mailbox is found full, and whether empty.
+fn look<W: Named, M: Mailbox<W>>(
+    mailbox: &M,
+    sender: &mut M::Sender,
+    taker: &mut M::Taker,
+) -> (bool, bool)
+    requires sender { M.ends.is_sender mailbox.now sender.old }
+    requires taker { M.ends.is_taker mailbox.now taker.old }
+    ensures sender { M.ends.is_sender mailbox.now sender.new × (M.ends.sends_of sender.new ≡ M.ends.sends_of sender.old) }
+    ensures taker { M.ends.is_taker mailbox.now taker.new }
+{
+    (mailbox.is_full(sender), mailbox.is_empty(taker))
 }
 
-/// Whether a mailbox is found empty: as it was opened, and after an offer. None where memory was refused.
-pub fn found_empty<W: Named, M: Mailbox<W> + Drop, R: Wait>(
+/// Whether a mailbox of capacity 2 is found full, and whether empty: as it was opened, after one offer, after two, and after a
+/// take. None where memory was refused.
+pub fn looks<W: Named, M: Mailbox<W> + Drop, R: Wait>(
     rt: &R,
     alloc: Global,
-) -> Option<[bool; 2]> {
+) -> Option<[(bool, bool); 4]> {
     let (mailbox, mut sender, mut taker) = open_one::<W, M>(alloc, lane(0, 0)).ok()?;
-    let opened = mailbox.is_empty(&mut taker);
+    let opened = look::<W, M>(&mailbox, &mut sender, &mut taker);
     let mut next = 0;
     offer_next::<W, M, R>(rt, &mailbox, &mut sender, &mut next);
-    let offered = mailbox.is_empty(&mut taker);
-    Some([opened, offered])
+    let one = look::<W, M>(&mailbox, &mut sender, &mut taker);
+    offer_next::<W, M, R>(rt, &mailbox, &mut sender, &mut next);
+    let two = look::<W, M>(&mailbox, &mut sender, &mut taker);
+    take_next::<W, M, R>(rt, &mailbox, &mut taker);
+    let taken = look::<W, M>(&mailbox, &mut sender, &mut taker);
+    Some([opened, one, two, taken])
 }

@@ -6,9 +6,7 @@ use crate::lines::LaneLines;
 use crate::openings::{LIMITS, lists};
 use crate::tests::answering::Answer::{Full, Nothing, Sent, Took};
 use crate::tests::assert_is;
-use crate::tests::boxes::{
-    BoxKind, EACH, answers_by, found_empty_by, found_full_by, lines_by, may_wait_by, relay_by,
-};
+use crate::tests::boxes::{BoxKind, EACH, answers_by, lines_by, looks_by, may_wait_by, relay_by};
 use crate::tests::left_tests::{assert_account, left_by, one_is_left};
 use crate::tests::relays::Lanes;
 use pl_event::{ByteString, Envelope, Event, Item, Lane, Message, Named};
@@ -196,28 +194,16 @@ fn waiting_for_room(rt: HostRuntime) -> Result<(), Fail> {
     Ok(())
 }
 
-// A ring is found full where it is, and not else; a waiting box does not look.
+// A ring is found full where it is, and empty where it is, and not else; a waiting box does not look.
 #[test]
-fn found_full(rt: HostRuntime) -> Result<(), Fail> {
-    for &(kind, expected) in &[
-        (BoxKind::Ring, [false, true, false]),
-        (BoxKind::Waiting, [false, false, false]),
-    ] {
-        let found = found_full_by::<Brand, HostRuntime>(kind, &rt, rt.alloc());
-        assert_is(&rt, &found, Some(expected));
-    }
-    Ok(())
-}
-
-// The same of an empty one.
-#[test]
-fn found_empty(rt: HostRuntime) -> Result<(), Fail> {
-    for &(kind, expected) in &[
-        (BoxKind::Ring, [true, false]),
-        (BoxKind::Waiting, [false, false]),
-    ] {
-        let found = found_empty_by::<Brand, HostRuntime>(kind, &rt, rt.alloc());
-        assert_is(&rt, &found, Some(expected));
-    }
+fn found_full_and_empty(rt: HostRuntime) -> Result<(), Fail> {
+    let ring = looks_by::<Brand, HostRuntime>(BoxKind::Ring, &rt, rt.alloc());
+    assert_is(
+        &rt,
+        &ring,
+        Some([(false, true), (false, false), (true, false), (false, false)]),
+    );
+    let waiting = looks_by::<Brand, HostRuntime>(BoxKind::Waiting, &rt, rt.alloc());
+    assert_is(&rt, &waiting, Some([(false, false); 4]));
     Ok(())
 }

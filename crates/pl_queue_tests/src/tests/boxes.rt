@@ -8,7 +8,7 @@ ghost use Rattle.pl_queue_tests.specs.Lines.{CarriesLines};
 ghost use Rattle.pl_queue_tests.specs.Relays.{lane_events};
 
 use crate::lines::{LaneLines, two_threads_hand_over_lines};
-use crate::tests::answering::{Answer, answers, found_empty, found_full};
+use crate::tests::answering::{Answer, answers, looks};
 use crate::tests::leaving::{Stopped, leave_one};
 use crate::tests::relays::{Lanes, Relayed, relay};
 use pl_event::{Envelope, Lane, Named};
@@ -50,23 +50,15 @@ pub fn answers_by<W: Named, R: Wait>(
     }
 }
 
-/// [`found_full`] over a box.
-pub fn found_full_by<W: Named, R: Wait>(kind: BoxKind, rt: &R, alloc: Global) -> Option<[bool; 3]> {
-    match kind {
-        BoxKind::Ring => found_full::<W, RingBox<W>, R>(rt, alloc),
-        BoxKind::Waiting => found_full::<W, WaitingBox<W>, R>(rt, alloc),
-    }
-}
-
-/// [`found_empty`] over a box.
-pub fn found_empty_by<W: Named, R: Wait>(
+/// [`looks`] over a box.
+pub fn looks_by<W: Named, R: Wait>(
     kind: BoxKind,
     rt: &R,
     alloc: Global,
-) -> Option<[bool; 2]> {
+) -> Option<[(bool, bool); 4]> {
     match kind {
-        BoxKind::Ring => found_empty::<W, RingBox<W>, R>(rt, alloc),
-        BoxKind::Waiting => found_empty::<W, WaitingBox<W>, R>(rt, alloc),
+        BoxKind::Ring => looks::<W, RingBox<W>, R>(rt, alloc),
+        BoxKind::Waiting => looks::<W, WaitingBox<W>, R>(rt, alloc),
     }
 }
 

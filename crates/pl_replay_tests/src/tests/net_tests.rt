@@ -20,8 +20,8 @@ use std::test::Fail;
 /// These handlers, each in a group or in none, with names made of their places.
 fn builder_of(alloc: Global, kinds: Kinds) -> Result<PipelineBuilder<Handler>, Fail> {
     let mut builder = PipelineBuilder::new(alloc);
-    for (place, (kind, group)) in kinds.iter().enumerate() {
-        let name = format!(in alloc; "h{place}")?;
+    for (index, (kind, group)) in kinds.iter().enumerate() {
+        let name = format!(in alloc; "h{index}")?;
         let stage = handler(alloc, *kind)?;
         builder.add_last(name.as_str(), *group, stage)?;
     }

@@ -1,41 +1,41 @@
-//! The moves of words: as many copies of each as its word says.
+//! The moves of terms: as many copies of each as its term says.
 
 ghost use Rattle.std.specs.Prelude.{◌≡◌, ◌+◌, ◌<◌, IfOk, MatchOption};
-ghost use Rattle.pl_text.specs.MovesTexts.{copies_of_word, moves_said, moves_of_words};
+ghost use Rattle.pl_text.specs.MovesTexts.{copies_of_term, moves_said, moves_of_terms};
 
-use super::words::Word;
+use super::terms::Term;
 use pl_world::Move;
 use std::alloc::{AllocError, Global};
 
-/// How often the move of a word is made: once where it has no count.
-fn times(word: &Word) -> u32
-    ensures { result ≡ copies_of_word word.now }
+/// How often the move of a term is made: once where it has no count.
+fn times(term: &Term) -> u32
+    ensures { result ≡ copies_of_term term.now }
 {
-    word.count.unwrap_or(1)
+    term.count.unwrap_or(1)
 }
 
-/// What is left of a limit after all moves of the words, or None where they pass it.
-pub(crate) fn left_of(limit: usize, words: &[Word]) -> Option<usize>
-    ensures { MatchOption result (limit < moves_said words.now) (λ left. left + moves_said words.now ≡ limit) }
+/// What is left of a limit after all moves of the terms, or None where they pass it.
+pub(crate) fn left_of(limit: usize, terms: &[Term]) -> Option<usize>
+    ensures { MatchOption result (limit < moves_said terms.now) (λ left. left + moves_said terms.now ≡ limit) }
 {
     let mut left = limit;
-    for word in words {
-        left = left.checked_sub(times(word) as usize)?;
+    for term in terms {
+        left = left.checked_sub(times(term) as usize)?;
     }
     Some(left)
 }
 
-/// The moves of the words, of which there are `len`.
-pub(crate) fn moves_of_words(
+/// The moves of the terms, of which there are `len`.
+pub(crate) fn moves_of_terms(
     alloc: Global,
-    words: &[Word],
+    terms: &[Term],
     len: usize,
 ) -> Result<Vec<Move>, AllocError>
-    ensures { IfOk result (λ moves. moves.items ≡ moves_of_words words.now) }
+    ensures { IfOk result (λ moves. moves.items ≡ moves_of_terms terms.now) }
 {
     let mut moves = Vec::with_capacity(alloc, len)?;
-    for word in words {
-        moves.resize(moves.len() + times(word) as usize, word.step)?;
+    for term in terms {
+        moves.resize(moves.len() + times(term) as usize, term.step)?;
     }
     Ok(moves)
 }

@@ -9,17 +9,17 @@ use pl_event::{Cause, Event, Outcome};
 use pl_world::{ChannelReport, Stands};
 use std::alloc::AllocError;
 
-/// What became of a channel, in words.
-fn stands_text(stands: Stands) -> &'static [u8]
+/// What became of a channel, in words (`docs/FORMATS.md`, "Report").
+pub fn stands_text(stands: Stands) -> &'static str
     ensures { result.now ≡ stands_text stands }
 {
     match stands {
-        Stands::Drained => b"drained",
-        Stands::Open => b"open",
-        Stands::Failed(Cause::Memory) => b"failed Memory",
-        Stands::Failed(Cause::Transport) => b"failed Transport",
-        Stands::Failed(Cause::Aborted) => b"failed Aborted",
-        Stands::Failed(Cause::Refused) => b"failed Refused",
+        Stands::Drained => "drained",
+        Stands::Open => "open",
+        Stands::Failed(Cause::Memory) => "failed Memory",
+        Stands::Failed(Cause::Transport) => "failed Transport",
+        Stands::Failed(Cause::Aborted) => "failed Aborted",
+        Stands::Failed(Cause::Refused) => "failed Refused",
     }
 }
 
@@ -58,11 +58,11 @@ fn add_writes(text: &mut Vec<u8>, writes: &[Option<Outcome>]) -> Result<(), Allo
     Ok(())
 }
 
-/// Adds a word, a number and what ends it.
-fn add_count(text: &mut Vec<u8>, word: &[u8], number: usize, end: &[u8]) -> Result<(), AllocError>
-    ensures { OnOk result (text.new.items ≡ text.old.items ++ word.now ++ decimal number ++ end.now) }
+/// Adds a label, a number and what ends it.
+fn add_count(text: &mut Vec<u8>, label: &[u8], number: usize, end: &[u8]) -> Result<(), AllocError>
+    ensures { OnOk result (text.new.items ≡ text.old.items ++ label.now ++ decimal number ++ end.now) }
 {
-    text.extend_from_slice(word)?;
+    text.extend_from_slice(label)?;
     add_number(text, number as u64)?;
     text.extend_from_slice(end)
 }
@@ -86,7 +86,7 @@ pub(crate) fn add_channel(
     ensures { OnOk result (text.new.items ≡ text.old.items ++ channel_text number report.now) }
 {
     add_count(text, b"channel ", number, b" ")?;
-    text.extend_from_slice(stands_text(report.stands))?;
+    text.extend_from_slice(stands_text(report.stands).as_bytes())?;
     add_count(text, b"\ntail ", report.tail.len(), b"\n")?;
     add_tail(text, report.tail.as_slice())?;
     add_sent(text, report)

@@ -14,8 +14,8 @@ use std::alloc::AllocError;
 /// So many bytes are written as hex at once.
 const AT_ONCE: usize = 16;
 
-/// Adds lower case hex, or a dash where there are no bytes.
-pub(crate) fn add_hex(text: &mut Vec<u8>, bytes: &[u8]) -> Result<(), AllocError>
+/// Adds bytes in lower case hex, or a dash where there are none (`docs/FORMATS.md`, "Report").
+pub fn add_hex(text: &mut Vec<u8>, bytes: &[u8]) -> Result<(), AllocError>
     ensures { OnOk result (text.new.items ≡ text.old.items ++ hex_text bytes.now) }
 {
     if bytes.is_empty() {
@@ -47,11 +47,11 @@ pub(crate) fn add_number(text: &mut Vec<u8>, number: u64) -> Result<(), AllocErr
     text.extend_from_slice(Buffer::new().format(number).as_bytes())
 }
 
-/// Adds a word and the name of a key.
-fn add_named(text: &mut Vec<u8>, word: &[u8], key: &Key) -> Result<(), AllocError>
-    ensures { OnOk result (text.new.items ≡ text.old.items ++ word.now ++ key.now) }
+/// Adds a label and the name of a key.
+fn add_named(text: &mut Vec<u8>, label: &[u8], key: &Key) -> Result<(), AllocError>
+    ensures { OnOk result (text.new.items ≡ text.old.items ++ label.now ++ key.now) }
 {
-    text.extend_from_slice(word)?;
+    text.extend_from_slice(label)?;
     text.extend_from_slice(key.as_slice())
 }
 
@@ -122,8 +122,8 @@ fn add_message(text: &mut Vec<u8>, message: &Message) -> Result<(), AllocError>
     }
 }
 
-/// Adds the text of an event, without an end of line.
-pub(crate) fn add_event(text: &mut Vec<u8>, event: &Event) -> Result<(), AllocError>
+/// Adds the text of an event (`docs/FORMATS.md`, "Report"), without an end of line.
+pub fn add_event(text: &mut Vec<u8>, event: &Event) -> Result<(), AllocError>
     ensures { OnOk result (text.new.items ≡ text.old.items ++ event_text event.now) }
 {
     match event {

@@ -5,19 +5,19 @@
 pub const MAX_SESSION_TEXT: usize = 33_554_432;
 
 /// How many executors a group names at most. What is built has at most `pl_build::MAX_EXECUTORS` in all.
-pub(crate) const MAX_GROUP_SIZE: u16 = 65_535;
+pub const MAX_GROUP_SIZE: u16 = 65_535;
 
 /// How many edits a channel has at most.
-pub(crate) const MAX_EDITS: usize = 256;
+pub const MAX_EDITS: usize = 256;
 
 /// How many bytes a transport accepts at most in one call.
-pub(crate) const MAX_WINDOW: u32 = 65_536;
+pub const MAX_WINDOW: u32 = 65_536;
 
 /// The greatest number of a call of a transport that a text can tell to fail.
-pub(crate) const MAX_FAIL_AT: u32 = 4_294_967_295;
+pub const MAX_FAIL_AT: u32 = 4_294_967_295;
 
 /// The greatest number of a user event.
-pub(crate) const MAX_USER_EVENT: u32 = 4_294_967_295;
+pub const MAX_USER_EVENT: u32 = 4_294_967_295;
 
 /// How many bytes a transport accepts in one call where the text does not say.
 pub(crate) const DEFAULT_WINDOW: u32 = 65_536;

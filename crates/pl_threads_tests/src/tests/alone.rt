@@ -6,8 +6,8 @@ ghost use Rattle.pl_threads_tests.specs.Nodes.{lane_to};
 ghost use Rattle.pl_threads_tests.specs.Openings.{ArePlaces, IsReady, IsWay};
 
 use crate::nodes::{Node, flag_to};
-use crate::places::{Inboxes, Own, Places, Way};
-use crate::tests::starting::executor;
+use crate::places::{Own, Places, Way};
+use crate::tests::starting::{executor, inbox_of};
 use crossbeam_utils::sync::Parker;
 use pl_event::Named;
 use pl_outbox::Inbox;
@@ -139,7 +139,7 @@ impl<'a, W: Named, M: Mailbox<W> + Drop> Sink<'a, W, M> {
 
     /// Says that so many envelopes wait there for others. Whether it is congested then.
     pub(crate) fn has_waiting(&self, count: u64) -> bool {
-        let _nobody_rests = self.inbox.congestion.tell(count);
+        let _nobody_rests = self.inbox.congestion.update(count);
         self.inbox.congestion.is_on()
     }
 
@@ -200,7 +200,7 @@ fn left<W: Named, M: Mailbox<W> + Drop, R: Wait>(
     begins: bool,
 ) -> Option<Node> {
     let start = Start::new();
-    start.tell(begins);
+    start.decide(begins);
     let finished = executor.run(rt, &NoGate, &start, parker)?;
     Some(finished.into_nodes())
 }
@@ -208,7 +208,7 @@ fn left<W: Named, M: Mailbox<W> + Drop, R: Wait>(
 /// Executor 2 with these nodes.
 pub(crate) fn set_apart<'a, W: Named, M: Mailbox<W> + Drop>(
     alloc: Global,
-    inboxes: &'a Inboxes<W, M>,
+    inboxes: &'a [Inbox<W, M>],
     places: Places<W, M>,
     node: Node,
 ) -> Result<Alone<'a, W, M>, AllocError>
@@ -225,8 +225,8 @@ pub(crate) fn set_apart<'a, W: Named, M: Mailbox<W> + Drop>(
     Ok(Alone {
         executor,
         parker,
-        feed: Feed::new(2, &inboxes.third, first.third),
-        first: Sink::new(&inboxes.first, first.own),
-        second: Sink::new(&inboxes.second, second.own),
+        feed: Feed::new(2, inbox_of(inboxes, 2), first.third),
+        first: Sink::new(inbox_of(inboxes, 0), first.own),
+        second: Sink::new(inbox_of(inboxes, 1), second.own),
     })
 }

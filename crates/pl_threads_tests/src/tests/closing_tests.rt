@@ -62,7 +62,7 @@ fn run_refused<W: Named, M: Mailbox<W> + Drop, R: Abort + Wait>(
     alloc: Global,
 ) -> Result<Ran, Fail> {
     let (inboxes, places) = open_three::<W, M>(alloc, 8)?;
-    let mut alone = set_apart(alloc, &inboxes, places, maker((3, 2), 0))?;
+    let mut alone = set_apart(alloc, inboxes.as_slice(), places, maker((3, 2), 0))?;
     assert!(rt; alone.first.close(0), "not closed");
     Ok(alone.run(rt, true))
 }

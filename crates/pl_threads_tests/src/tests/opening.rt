@@ -6,7 +6,8 @@ ghost use Rattle.pl_threads_tests.specs.Nodes.{lane_to};
 ghost use Rattle.pl_threads_tests.specs.Openings.{ArePlaces, IsOpened};
 
 use crate::nodes::lane_to;
-use crate::places::{Inboxes, Own, Place, Places, Way};
+use crate::places::{Own, Place, Places, Way};
+use crate::tests::starting::three;
 use pl_event::{Lane, Named};
 use pl_outbox::Inbox;
 use pl_queue::{Mailbox, OpenRefusal};
@@ -77,17 +78,13 @@ fn open<W: Named, M: Mailbox<W> + Drop>(
 pub(crate) fn open_three<W: Named, M: Mailbox<W> + Drop>(
     alloc: Global,
     capacity: usize,
-) -> Result<(Inboxes<W, M>, Places<W, M>), OpenRefusal>
-    ensures { IfOk result (λ r. ArePlaces M.ends r.0 r.1) }
+) -> Result<(Vec<Inbox<W, M>>, Places<W, M>), OpenRefusal>
+    ensures { IfOk result (λ r. ArePlaces M.ends r.0.items r.1) }
 {
     let (first, first_own, to_first) = open::<W, M>(alloc, 0, capacity)?;
     let (second, second_own, to_second) = open::<W, M>(alloc, 1, capacity)?;
     let (third, third_own, to_third) = open::<W, M>(alloc, 2, capacity)?;
-    let inboxes = Inboxes {
-        first,
-        second,
-        third,
-    };
+    let inboxes = three(alloc, first, second, third)?;
     let first = Place {
         own: first_own,
         first: to_first.1,

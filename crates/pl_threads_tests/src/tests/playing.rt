@@ -43,7 +43,7 @@ pub(crate) enum Answer {
     Did(bool),
     Refused(Refused),
     Turned(Turn),
-    /// To which executor.
+    /// By which way. Each has the number of its executor.
     Handed(Option<usize>),
     /// The flag with this number.
     Took(Option<u64>),
@@ -108,7 +108,7 @@ pub(crate) fn play<W: Named, M: Mailbox<W> + Drop, R: Abort + Wait>(
     requires ready { IsReady node }
 {
     let (inboxes, places) = open_three::<W, M>(alloc, capacity)?;
-    let mut alone = set_apart(alloc, &inboxes, places, node)?;
+    let mut alone = set_apart(alloc, inboxes.as_slice(), places, node)?;
     assert_answers(rt, &mut alone, rows);
     drop(alone);
     Ok(())

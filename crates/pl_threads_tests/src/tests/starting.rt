@@ -1,10 +1,10 @@
 //! Three executors before their first turn.
 
-ghost use Rattle.std.specs.Prelude.{◌≡◌, ◌∷◌, [], IfOk};
-ghost use Rattle.pl_threads_tests.specs.Openings.{ArePlaces, IsPlace, IsReady, inbox_of};
+ghost use Rattle.std.specs.Prelude.{◌≡◌, ◌<◌, ◌∷◌, [], length, slice_get, IfOk, Some};
+ghost use Rattle.pl_threads_tests.specs.Openings.{ArePlaces, IsPlace, IsReady};
 
 use crate::nodes::{Node, Outlet};
-use crate::places::{Inboxes, Own, Place, Places, Way};
+use crate::places::{Own, Place, Places, Way};
 use crossbeam_utils::sync::Parker;
 use pl_context::Outputs;
 use pl_event::Named;
@@ -26,37 +26,37 @@ fn outbox<'a, W: Named, M: Mailbox<W> + Drop>(
     Outbox::new(inbox, sender, seat)
 }
 
-/// The outboxes of an executor, in the order of their targets.
-fn three<'a, W: Named, M: Mailbox<W> + Drop>(
+/// A list of three.
+pub(crate) fn three<T: Drop>(
     alloc: Global,
-    first: Outbox<'a, W, M>,
-    second: Outbox<'a, W, M>,
-    third: Outbox<'a, W, M>,
-) -> Result<Vec<Outbox<'a, W, M>>, AllocError>
-    ensures { IfOk result (λ outboxes. outboxes.items ≡ first.entry ∷ second.entry ∷ third.entry ∷ []) }
+    first: T,
+    second: T,
+    third: T,
+) -> Result<Vec<T>, AllocError>
+    ensures { IfOk result (λ items. items.items ≡ first ∷ second ∷ third ∷ []) }
 {
-    let mut outboxes = Vec::new(alloc);
-    outboxes.push(first)?;
-    outboxes.push(second)?;
-    outboxes.push(third)?;
-    Ok(outboxes)
+    let mut items = Vec::new(alloc);
+    items.push(first)?;
+    items.push(second)?;
+    items.push(third)?;
+    Ok(items)
 }
 
 /// The inbox of one of three executors.
-fn inbox_of<W: Named, M: Mailbox<W> + Drop>(inboxes: &Inboxes<W, M>, executor: u16) -> &Inbox<W, M>
-    ensures { result.now ≡ inbox_of inboxes.now executor }
+pub(crate) fn inbox_of<W: Named, M: Mailbox<W> + Drop>(
+    inboxes: &[Inbox<W, M>],
+    executor: usize,
+) -> &Inbox<W, M>
+    requires { executor < length inboxes.now }
+    ensures { slice_get inboxes.now executor ≡ Some result.now }
 {
-    match executor {
-        0 => &inboxes.first,
-        1 => &inboxes.second,
-        _ => &inboxes.third,
-    }
+    &inboxes[executor]
 }
 
 /// The executor with these nodes, and the parker on which it rests.
 pub(crate) fn executor<'a, W: Named, M: Mailbox<W> + Drop>(
     alloc: Global,
-    inboxes: &'a Inboxes<W, M>,
+    inboxes: &'a [Inbox<W, M>],
     place: Place<W, M>,
     node: Node,
 ) -> Result<(Executor<'a, W, M, Node>, Parker), AllocError>
@@ -74,17 +74,17 @@ pub(crate) fn executor<'a, W: Named, M: Mailbox<W> + Drop>(
         taker,
         owner,
     } = own;
-    let outboxes = three(
-        alloc,
-        outbox(&inboxes.first, first),
-        outbox(&inboxes.second, second),
-        outbox(&inboxes.third, third),
-    )?;
-    let inbox = inbox_of(inboxes, node.executor);
+    let first = outbox(inbox_of(inboxes, 0), first);
+    let second = outbox(inbox_of(inboxes, 1), second);
+    let third = outbox(inbox_of(inboxes, 2), third);
+    let outboxes = three(alloc, first, second, third)?;
+    let ways = three(alloc, 0, 1, 2)?;
+    let number = usize::from(node.executor);
+    let inbox = inbox_of(inboxes, number);
     let core = Core::of(
-        usize::from(node.executor),
+        number,
         node,
-        Outboxes::new(alloc, outboxes, &[1, 1, 1])?,
+        Outboxes::new(alloc, inboxes, ways, outboxes, &[1, 1, 1])?,
         Outputs::new(alloc, 2)?,
     );
     Ok((Executor::new(core, inbox, taker, owner), parker))
@@ -141,7 +141,7 @@ fn counter(count: u32) -> Node
 /// One executor more.
 fn add<'a, W: Named, M: Mailbox<W> + Drop>(
     executors: &mut Vec<(Executor<'a, W, M, Node>, Parker)>,
-    inboxes: &'a Inboxes<W, M>,
+    inboxes: &'a [Inbox<W, M>],
     place: Place<W, M>,
     node: Node,
 ) -> Result<(), AllocError>
@@ -157,7 +157,7 @@ fn add<'a, W: Named, M: Mailbox<W> + Drop>(
 /// that comes. They have ended once each has got so many.
 pub(crate) fn three_executors<'a, W: Named, M: Mailbox<W> + Drop>(
     alloc: Global,
-    inboxes: &'a Inboxes<W, M>,
+    inboxes: &'a [Inbox<W, M>],
     places: Places<W, M>,
     count: u32,
 ) -> Result<Vec<(Executor<'a, W, M, Node>, Parker)>, AllocError>

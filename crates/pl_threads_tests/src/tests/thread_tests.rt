@@ -34,7 +34,7 @@ where
     M::Taker: Send,
 {
     let (inboxes, places) = open_three::<W, M>(alloc, capacity)?;
-    let executors = three_executors(alloc, &inboxes, places, count)?;
+    let executors = three_executors(alloc, inboxes.as_slice(), places, count)?;
     let mut all = Vec::new(alloc);
     for finished in run_all(rt, alloc, &NoGate, executors)? {
         let node = finished.into_nodes();
@@ -61,7 +61,7 @@ fn all_are_joined(rt: HostRuntime) -> Result<(), Fail> {
 /// An executor that is told to leave: what is found then.
 fn leaves<W: Named, R: Wait>(rt: &R, alloc: Global) -> Result<Ran, Fail> {
     let (inboxes, places) = open_three::<W, RingBox<W>>(alloc, 8)?;
-    let alone = set_apart(alloc, &inboxes, places, maker((1, 1), 0))?;
+    let alone = set_apart(alloc, inboxes.as_slice(), places, maker((1, 1), 0))?;
     Ok(alone.run(rt, false))
 }
 

@@ -46,30 +46,30 @@ fn command<'a>(alloc: Global) -> Result<Command<'a>, AllocError>
     program.subcommand(plain)
 }
 
-/// Whether a word is a lone `-`.
-fn is_any_dash(words: &[String]) -> bool
-    ensures { result ≡ list_any (λ word. bytes_eq (codes "-") (string_bytes word)) words.now }
+/// Whether an argument is a lone `-`.
+fn is_any_dash(args: &[String]) -> bool
+    ensures { result ≡ list_any (λ arg. bytes_eq (codes "-") (string_bytes arg)) args.now }
 {
-    words.iter().any(|word| "-" == word.as_str())
+    args.iter().any(|arg| "-" == arg.as_str())
 }
 
-/// Whether a word after the program's name is a lone `-`, which `clap` takes for a value and not for an option.
-fn has_dash(words: &[String]) -> bool
-    ensures { result ≡ list_any (λ word. bytes_eq (codes "-") (string_bytes word)) (drop 1 words.now) }
+/// Whether an argument after the program's name is a lone `-`, which `clap` takes for a value and not for an option.
+fn has_dash(args: &[String]) -> bool
+    ensures { result ≡ list_any (λ arg. bytes_eq (codes "-") (string_bytes arg)) (drop 1 args.now) }
 {
-    match words.split_first() {
+    match args.split_first() {
         Some((_, rest)) => is_any_dash(rest),
         None => false,
     }
 }
 
 /// What `clap` finds on the command line.
-fn matches_of<'a>(alloc: Global, words: &'a [String]) -> Result<ArgMatches<'a>, Error>
-    ensures found { IfOk result (λ matches. subcommand_rows_of matches ≡ subcommand_of program (map string_bytes words.entry.now)) }
-    ensures kinds { FailsBy (fault_of program (map string_bytes words.entry.now)) result }
+fn matches_of<'a>(alloc: Global, args: &'a [String]) -> Result<ArgMatches<'a>, Error>
+    ensures found { IfOk result (λ matches. subcommand_rows_of matches ≡ subcommand_of program (map string_bytes args.entry.now)) }
+    ensures kinds { FailsBy (fault_of program (map string_bytes args.entry.now)) result }
 {
     let command = command(alloc)?;
-    command.try_get_matches_from(words)
+    command.try_get_matches_from(args)
 }
 
 /// The text of the option `--moves` of `replay`, empty where it is not given.
@@ -123,19 +123,19 @@ fn request_in<'a>(matches: &ArgMatches<'a>) -> Option<Request<'a>>
     request_of_subcommand(name, found)
 }
 
-/// What the command line requests, or None where it is not read. The first word is the program's name. It fails only
+/// What the command line requests, or None where it is not read. The first argument is the program's name. It fails only
 /// out of memory.
 #[tactic(auto, using(crate::proofs::ProgramReads::dash_is_refused, crate::proofs::ProgramReads::fault_is_refused))]
 pub(crate) fn request_of<'a>(
     alloc: Global,
-    words: &'a [String],
+    args: &'a [String],
 ) -> Result<Option<Request<'a>>, AllocError>
-    ensures { IfOk result (λ request. option_map request_view request ≡ request_of (map string_bytes words.entry.now)) }
+    ensures { IfOk result (λ request. option_map request_view request ≡ request_of (map string_bytes args.entry.now)) }
 {
-    if has_dash(words) {
+    if has_dash(args) {
         return Ok(None);
     }
-    match matches_of(alloc, words) {
+    match matches_of(alloc, args) {
         Ok(matches) => Ok(request_in(&matches)),
         Err(error) if error.kind() == ErrorKind::OutOfMemory => Err(AllocError),
         Err(_) => Ok(None),

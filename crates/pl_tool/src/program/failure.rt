@@ -3,7 +3,7 @@
 ghost use Rattle.std.specs.Prelude.{◌≡◌};
 ghost use Rattle.std.specs.IoError.{error_kind};
 ghost use Rattle.pl_tool.specs.declared.program.failure.Failure.TheVariants as failure;
-ghost use Rattle.pl_tool.specs.ProgramFailures.{failure_of_print, failure_of_read, failure_of_words, or_memory, status_of, failure_line, build_line};
+ghost use Rattle.pl_tool.specs.ProgramFailures.{failure_of_print, failure_of_read, failure_of_args, or_memory, status_of, failure_line, build_line};
 
 use pl_build::BuildFault;
 use pl_exec::RunFault;
@@ -34,9 +34,9 @@ pub(crate) enum Failure {
 }
 
 impl Failure {
-    /// The failure of words that could not be taken from the system.
-    pub(crate) fn of_words(error: &io::Error) -> Failure
-        ensures { result ≡ failure_of_words (error_kind error.now) }
+    /// The failure of arguments that could not be taken from the system.
+    pub(crate) fn of_args(error: &io::Error) -> Failure
+        ensures { result ≡ failure_of_args (error_kind error.now) }
     {
         match error.kind() {
             ErrorKind::OutOfMemory => Failure::Memory,

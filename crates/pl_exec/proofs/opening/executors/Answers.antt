@@ -1,10 +1,10 @@
-use Rattle.std.proofs.Common.{rules, ◌≡◌, ◌++◌, [], ◌∷◌, ℕ, List, Some, slice_get, length, map, inl, inr, ⊎_elim, ap, sym, subst, ◌∙◌, arith, append_assoc, length-append}
+use Rattle.std.proofs.Common.{rules, ◌≡◌, ◌++◌, [], ◌∷◌, ℕ, List, Some, slice_get, length, map, inl, inr, ⊎_elim, refl, add-one, ap, sym, subst, ◌∙◌, arith, append_assoc, length-append}
 use Rattle.std.proofs.lemmas.List.{length-map, map-append, nil_from_length}
 use Rattle.std.proofs.lemmas.Option.{slice_get_within}
 use Rattle.pl_event.proofs.Lists.{slice_get-push}
 use Rattle.pl_threads.specs.Running.{ExecutorView}
-use Rattle.pl_exec.specs.Opening.{ColumnView, IsFirst, column_after, inbox_view}
-use Rattle.pl_exec.proofs.Columns.{columns-more, columns-none, inboxes-count}
+use Rattle.pl_exec.specs.Opening.{ColumnView, IsFirst, column_after, columns_after, inbox_view}
+use Rattle.pl_exec.proofs.Columns.{inboxes-count}
 use Rattle.pl_exec.proofs.ListSteps.{at-next, left-front, left-behind, none-left, all-done}
 use Rattle.pl_exec.proofs.StartLemmas.{each-starts}
 use Rattle.pl_exec.proofs.opening.executors.Goals as goal
@@ -23,7 +23,7 @@ overflow_add-number g c =
     omega (arith, within, c.requires.start.opened.count, inboxes-count c.args.inboxes.now, c.requires.few)
 
 pub loop-own-init : goal.loop-own-init
-loop-own-init g c = record { at = search rules; own = search rules; columns = columns-none c.args.columns.items; places = search rules; parts = search rules; first = search rules }
+loop-own-init g c = record { at = search rules; own = search rules; columns = refl; places = search rules; parts = search rules; first = search rules }
 
 pub executor-requires-clause-starts : goal.executor-requires-clause-starts
 executor-requires-clause-starts g c =
@@ -50,7 +50,9 @@ loop-own-preserved g c =
     record {
       at = let more = ap (λ (l : List (ExecutorView g.row.N.Denot × _)). length l) added in omega (arith, inv.at, more, length-append made (new ∷ []));
       own = left-behind c.args.all.items next.a.a.rest.items number c.in-Some.own (inv.own ∙ steps.0.0.0);
-      columns = c.in_ok-executor.ensures.left ∙ ap (λ (l : List (ColumnView g.row.M-Sender.Denot)). map (column_after 1) l) inv.columns ∙ columns-more number c.args.columns.items;
+      columns =
+          c.in_ok-executor.ensures.left ∙ ap (λ (l : List (ColumnView g.row.M-Sender.Denot)). map (column_after number) l) inv.columns
+          ∙ ap (λ (k : ℕ). columns_after k c.args.columns.items) (sym (add-one number));
       places = left-behind c.args.places.items next.b.rest.items number c.in-Some.places (inv.places ∙ steps.1.0);
       parts =
           ap (λ (l : List (ExecutorView g.row.N.Denot × _)). map own l ++ next.a.b.rest.items) added

@@ -2,7 +2,7 @@ use Rattle.std.proofs.Common.{◌≡◌, ℕ, List, length, map, ap, sym, ◌∙
 use Rattle.std.specs.Prelude.{All}
 use Rattle.std.proofs.lemmas.List.{length-map}
 use Rattle.pl_channel.proofs.WorldChannels.{recorded-small}
-use Rattle.pl_channel.specs.Placing.{ArePlaced}
+use Rattle.pl_channel.specs.WholeParts.{AreWholeParts}
 use Rattle.pl_outbox.specs.declared.inbox.Inbox.{Inbox}
 use Rattle.pl_world.specs.declared.session.Recorded.{Recorded}
 use Rattle.pl_world.specs.Plans.{Plan, channel_planned, planned}
@@ -17,8 +17,8 @@ use Rattle.pl_exec.proofs.Ready.{ended-executors, executors-in-order, first-turn
 use Rattle.pl_exec.proofs.SeatLemmas.{planned-marks}
 use Rattle.pl_exec.proofs.running.run_by.Goals as goal
 
-pub placed-requires-clause-small : goal.placed-requires-clause-small
-placed-requires-clause-small g c =
+pub whole_parts-requires-clause-small : goal.whole_parts-requires-clause-small
+whole_parts-requires-clause-small g c =
     recorded-small g.S.Stage.meaning g.T.Transport.state c.args.world c.into_channels.ensures.is_world c.into_vec.result.items (c.into_vec.ensures ∙ c.into_channels.ensures.channels)
 
 pub share_out-requires-clause-world : goal.share_out-requires-clause-world
@@ -32,7 +32,7 @@ share_out-requires-clause-ready g c =
     (record {
       recorded = c.args.world.channels;
       planned = λ i. plan.channels;
-      placed = subst (λ (rs : List (Recorded g.row.S.Denot g.row.T.Denot)). ArePlaced g.S.Stage.meaning g.S.Stage.stands_after g.T.Transport.state rs c.in_ok-parts.parts.items) (c.into_vec.ensures ∙ c.into_channels.ensures.channels) c.in_ok-parts.ensures;
+      placed = subst (λ (rs : List (Recorded g.row.S.Denot g.row.T.Denot)). AreWholeParts g.S.Stage.meaning g.S.Stage.stands_after g.T.Transport.state rs c.in_ok-parts.parts.items) (c.into_vec.ensures ∙ c.into_channels.ensures.channels) c.in_ok-parts.ensures;
       ruled = is.ruled c.args.capacity c.requires.run.some;
       small = is.small c.args.capacity;
       channels = is.channels;

@@ -10,6 +10,10 @@ use Rattle.pl_exec.specs.SessionWords.{SeatsView}
 use Rattle.pl_exec.proofs.SharesMade.{AreTaken, HasFirst, all-shares, next-share, next-taken, none-taken, rest-is}
 use Rattle.pl_exec.proofs.sharing.nodes_on.Goals as goal
 
+-- the channel that is read in a row
+channel-at : (row here : List ℕ) (k channel : ℕ) → channel ≡ get_or here k channel → here ≡ row → k < length row → channel ≡ get_or row k 0
+channel-at row here k channel read same within = read ∙ ap (λ (l : List ℕ). get_or l k channel) same ∙ get_or_default row k channel 0 within
+
 pub loop-position-init : goal.loop-position-init
 loop-position-init g c =
     let count : c.len.result ≡ length c.args.left.now.items = omega (arith, c.len.ensures, c.args.left.now.ok.0) in
@@ -30,15 +34,12 @@ loop-position-init g c =
 
 pub index_mut-requires-in-loop-position : goal.index_mut-requires-in-loop-position
 index_mut-requires-in-loop-position g c =
-    let has = c.loop-position.invariant.has in
-    let taken = c.loop-position.invariant.taken in
     let row = c.args.here.items in
     let k = c.loop-position.position in
     let within : k < length row = omega (arith, c.loop-position-test.true, c.len-position-end.ensures, c.args.here.ok.0) in
-    let channel = c.index-channel.result.now in
-    let channel-is : channel ≡ get_or row k 0 = c.index-channel.ensures ∙ ap (λ (l : List ℕ). get_or l k channel) has.here ∙ get_or_default row k channel 0 within in
+    let channel-is = channel-at row _ k c.index-channel.result.now c.index-channel.ensures c.loop-position.invariant.has.here within in
     let there = All-get_or (λ n. n < length c.args.left.now.items) row k 0 within c.requires.row.there in
-    omega (arith, channel-is, there, taken.rests.seats_count, c.requires.seats, c.loop-position.seats.ok.0)
+    omega (arith, channel-is, there, c.loop-position.invariant.taken.rests.seats_count, c.requires.seats, c.loop-position.seats.ok.0)
 
 pub loop-position-preserved : goal.loop-position-preserved
 loop-position-preserved g c =
@@ -48,7 +49,7 @@ loop-position-preserved g c =
     let k = c.loop-position.position in
     let within : k < length row = omega (arith, c.loop-position-test.true, c.len-position-end.ensures, c.args.here.ok.0) in
     let channel = c.index-channel.result.now in
-    let channel-is : channel ≡ get_or row k 0 = c.index-channel.ensures ∙ ap (λ (l : List ℕ). get_or l k channel) has.here ∙ get_or_default row k channel 0 within in
+    let channel-is = channel-at row _ k channel c.index-channel.ensures has.here within in
     let p = c.index_mut.result.now in
     let p' = c.take_share.new.self in
     let share = c.in_ok-share.share in

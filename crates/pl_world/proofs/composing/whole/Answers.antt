@@ -10,39 +10,39 @@ use Rattle.pl_world.specs.Plans.{channel_planned}
 use Rattle.pl_world.specs.Reports.{tail_of, head_of}
 use Rattle.pl_head.specs.Writes.{out, outcomes}
 use Rattle.pl_event.proofs.Lists.{list_any-map}
-use Rattle.pl_world.proofs.Parting.{parted_new}
+use Rattle.pl_world.proofs.SplitChains.{split_new}
 use Rattle.pl_world.proofs.PathLanes.{tail_is, head_is}
 use Rattle.pl_world.proofs.composing.whole.Goals as goal
 
 pub feed_up-requires : goal.feed_up-requires
 feed_up-requires g c =
-    let parted = c.in_ok-before.field-0 in
-    record { new = (parted_new g.S.Stage.stands_after c.into_chains-inbound.result.0.items parted.before.items parted.turn parted.after.items c.in_ok-before.ensures.whole c.into_chains-inbound.ensures.new_inbound).0 }
+    let split = c.in_ok-before.field-0 in
+    record { new = (split_new g.S.Stage.stands_after c.into_chains-inbound.result.0.items split.before.items split.turn split.after.items c.in_ok-before.ensures.whole c.into_chains-inbound.ensures.new_inbound).0 }
 
 pub pass-requires : goal.pass-requires
 pass-requires g c =
-    let parted = c.in_ok-before.field-0 in
-    record { new = (parted_new g.S.Stage.stands_after c.into_chains-inbound.result.0.items parted.before.items parted.turn parted.after.items c.in_ok-before.ensures.whole c.into_chains-inbound.ensures.new_inbound).1 }
+    let split = c.in_ok-before.field-0 in
+    record { new = (split_new g.S.Stage.stands_after c.into_chains-inbound.result.0.items split.before.items split.turn split.after.items c.in_ok-before.ensures.whole c.into_chains-inbound.ensures.new_inbound).1 }
 
 pub feed_up-requires-2 : goal.feed_up-requires-2
 feed_up-requires-2 g c =
-    let parted = c.in_ok-before.field-0 in
-    record { new = (parted_new g.S.Stage.stands_after c.into_chains-inbound.result.0.items parted.before.items parted.turn parted.after.items c.in_ok-before.ensures.whole c.into_chains-inbound.ensures.new_inbound).2 }
+    let split = c.in_ok-before.field-0 in
+    record { new = (split_new g.S.Stage.stands_after c.into_chains-inbound.result.0.items split.before.items split.turn split.after.items c.in_ok-before.ensures.whole c.into_chains-inbound.ensures.new_inbound).2 }
 
 pub returns-clause-whole : goal.returns-clause-whole
 returns-clause-whole g c =
     let meaning = g.S.Stage.meaning in
     let p = channel_planned meaning g.T.Transport.state c.args.recorded in
-    let parted = c.in_ok-before.field-0 in
-    let before : List Meaning = map meaning parted.before.items in
-    let turn : Meaning = meaning parted.turn in
-    let after : List Meaning = map meaning parted.after.items in
+    let split = c.in_ok-before.field-0 in
+    let before : List Meaning = map meaning split.before.items in
+    let turn : Meaning = meaning split.turn in
+    let after : List Meaning = map meaning split.after.items in
     let input = recorded_input p.bursts in
     let inbound : p.inbound ≡ before ++ turn ∷ after =
-    ap (map meaning) (sym c.into_chains-inbound.ensures.inbound ∙ c.in_ok-before.ensures.whole) ∙ map-append meaning parted.before.items (parted.turn ∷ parted.after.items) in
+    ap (map meaning) (sym c.into_chains-inbound.ensures.inbound ∙ c.in_ok-before.ensures.whole) ∙ map-append meaning split.before.items (split.turn ∷ split.after.items) in
     let outbound : map meaning c.into_chains-inbound.result.1.items ≡ p.outbound = ap (map meaning) c.into_chains-inbound.ensures.outbound in
     let none : list_any (λ (m : Meaning). is_turn m.direction) before ≡ false =
-    list_any-map (λ (m : Meaning). is_turn m.direction) meaning parted.before.items ∙ c.in_ok-before.ensures.before in
+    list_any-map (λ (m : Meaning). is_turn m.direction) meaning split.before.items ∙ c.in_ok-before.ensures.before in
     let at_turn : c.in_ok-at_turn.at_turn.items ≡ through before input = c.in_ok-at_turn.ensures ∙ ap (through before) c.in_ok-events.ensures in
     let up : c.in_ok-made.made.up.items ≡ up_of turn (through before input) = c.in_ok-made.ensures.up ∙ ap (up_of turn) at_turn in
     let down : c.in_ok-made.made.down.items ≡ down_of turn (through before input) = c.in_ok-made.ensures.down ∙ ap (down_of turn) at_turn in

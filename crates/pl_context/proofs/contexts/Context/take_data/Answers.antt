@@ -191,9 +191,9 @@ pub returns-in-No-clause-meaning : goal.returns-in-No-clause-meaning
 returns-in-No-clause-meaning g c =
     c.take_item.ensures.meaning ∙ c.in-No.ensures.meaning ∙ ap (λ (s : ContextView g.row.S.Denot). g.S.Stage.meaning s.stage) c.self.view_is
 
-pub returns-in-No-clause-place : goal.returns-in-No-clause-place
-returns-in-No-clause-place g c =
-    let place = c.take_item.ensures.place in
+pub returns-in-No-clause-same_node : goal.returns-in-No-clause-same_node
+returns-in-No-clause-same_node g c =
+    let place = c.take_item.ensures.same_node in
     record {
       channel = place.channel ∙ ap (λ (s : ContextView g.row.S.Denot). s.channel) c.self.view_is;
       hop = place.hop ∙ ap (λ (s : ContextView g.row.S.Denot). s.hop) c.self.view_is;
@@ -235,7 +235,7 @@ returns-then-is_empty g c =
     let s = c.args.outputs.now.stopped in
     record {
       meaning = search rules;
-      place = search rules;
+      same_node = search rules;
       «open» = λ o. takes-up g.S.Stage.meaning g.S.Stage.stands_after g.S.Stage.is_spent _ c.args.self.now c.self.view_is c.args.envelope.item c.change-changed.new.item changes.0 [] c.args.outputs.now c.hand_on.new.outputs c.change-changed.new.stage c.hand_on.new.self c.self.inside.down
           changes.2 c.in-Up.ensures.meaning (sym none ∙ all-made changes.1 c.self.invariant.down_empty) c.hand_on.ensures.port (sym (port_after-nil c.self.inside.down))
           (appends-alone c.args.outputs.now c.hand_on.new.outputs s c.self.inside.down (put_out s c.self.inside.up (c.change-changed.new.item ∷ [])) c.hand_on.ensures.out);
@@ -251,7 +251,7 @@ returns-in-Ok g c =
     let was = (c.in-Up.ensures.ready n).0 in
     record {
       meaning = search rules;
-      place = search rules;
+      same_node = search rules;
       «open» = λ o. takes-up g.S.Stage.meaning g.S.Stage.stands_after g.S.Stage.is_spent _ c.args.self.now c.self.view_is c.args.envelope.item c.change-changed.new.item changes.0 c.change-changed.new.below.items c.args.outputs.now c.put_changed-put.new.outputs c.change-changed.new.stage c.put_changed-put.new.up c.put_changed-put.new.down
           changes.2 c.in-Up.ensures.meaning (all-made changes.1 c.self.invariant.down_empty) c.in-Ok.ensures.up c.in-Ok.ensures.down c.in-Ok.ensures.out;
       spent = λ o spent event is. absurd (n (c.in-Up.ensures.spent (ap (λ (s : ContextView g.row.S.Denot). g.S.Stage.is_spent s.stage) c.self.view_is ∙ spent)));
@@ -267,7 +267,7 @@ returns-in-Err-Memory g c =
     let kept = c.in-Err-Memory.ensures in
     record {
       meaning = search rules;
-      place = search rules;
+      same_node = search rules;
       «open» = λ o. takes-fault g.S.Stage.meaning g.S.Stage.stands_after g.S.Stage.is_spent _ c.args.self.now c.self.view_is c.args.envelope.item c.change-changed.new.item changes.0 c.change-changed.new.below.items c.args.outputs.now c.put_changed-put.new.outputs c.run_out.new.outputs c.change-changed.new.stage c.put_changed-put.new.up c.put_changed-put.new.down c.run_out.new.self c.run_out.result
           changes.2 (all-made changes.1 c.self.invariant.down_empty) kept.up_kept kept.down_kept kept.items kept.stopped kept.grows kept.why c.run_out.ensures.failed c.run_out.ensures.closes;
       spent = λ o spent event is. absurd (n (c.in-Up.ensures.spent (ap (λ (s : ContextView g.row.S.Denot). g.S.Stage.is_spent s.stage) c.self.view_is ∙ spent)));
@@ -283,7 +283,7 @@ returns-in-Down g c =
     let none = sym (all-made changes.1 c.self.invariant.down_empty) ∙ c.in-Down.ensures.alone refl ∙ c.self.invariant.down_empty in
     record {
       meaning = search rules;
-      place = search rules;
+      same_node = search rules;
       «open» = λ o. takes-down g.S.Stage.meaning g.S.Stage.stands_after g.S.Stage.is_spent _ c.args.self.now c.self.view_is c.args.envelope.item c.change-changed.new.item changes.0 c.args.outputs.now c.hand_on-in-Down.new.outputs c.change-changed.new.stage c.hand_on-in-Down.new.self
           changes.2 c.in-Down.ensures.meaning none c.hand_on-in-Down.ensures.port c.hand_on-in-Down.ensures.out;
       spent = λ o spent event is. absurd (n (c.in-Down.ensures.spent (ap (λ (s : ContextView g.row.S.Denot). g.S.Stage.is_spent s.stage) c.self.view_is ∙ spent)));

@@ -7,12 +7,12 @@ pub invariant_of-self : goal.invariant_of-self
 invariant_of-self c =
     rw c.remove.ensures.items
     (rw c.remove.ensures.capacity
-    (fronts-remove _ _ c.args.target c.self.invariant c.in-Some.place (search rules)))
+    (fronts-remove _ _ c.args.target c.self.invariant c.in-Some.index (search rules)))
 
 pub returns-in-Some-clause-ages : goal.returns-in-Some-clause-ages
 returns-in-Some-clause-ages c = λ y.
     rw c.remove.ensures.items
-    (rw (← c.self.view_is) (ages-remove _ _ c.args.target c.self.invariant c.in-Some.place (search rules) y))
+    (rw (← c.self.view_is) (ages-remove _ _ c.args.target c.self.invariant c.in-Some.index (search rules) y))
 
 pub returns-in_default-clause-ages : goal.returns-in_default-clause-ages
 returns-in_default-clause-ages c =

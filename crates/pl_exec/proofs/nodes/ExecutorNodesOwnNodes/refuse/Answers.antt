@@ -15,7 +15,7 @@ use Rattle.pl_exec.specs.Telling.{TellsAt, channel_seats}
 use Rattle.pl_exec.proofs.HeadLists.{heads-stay}
 use Rattle.pl_exec.proofs.ExecutorNodeLemmas.{made-here, routes-keep}
 use Rattle.pl_exec.proofs.MovedNodes.{refuse-stands}
-use Rattle.pl_exec.proofs.PartsHere.{parts-set, position-read, positions-count, read-part, written-here, written-within}
+use Rattle.pl_exec.proofs.PartsHere.{parts-set, written-part, written-position, written-slot}
 use Rattle.pl_exec.proofs.SeatLemmas.{all-tell, head-tells}
 use Rattle.pl_exec.proofs.ServedNodes.{heads-equal, serves-none}
 use Rattle.pl_exec.proofs.nodes.ExecutorNodesOwnNodes.refuse.Goals as goal
@@ -23,19 +23,13 @@ use Rattle.pl_exec.proofs.nodes.ExecutorNodesOwnNodes.refuse.Goals.{After-index_
 
 pub index-requires : goal.index-requires
 index-requires g c =
-    let n = c.args.self.now in
-    let order = c.requires.stands.in_order in
-    let within = written-within g.W.Planned.plan n order g.S.Stage.meaning c.args.lane c.requires.written in
-    omega (arith, within, positions-count g.W.Planned.plan n order, n.positions.ok.0)
+    let slot = written-slot g.W.Planned.plan c.args.self.now c.requires.stands.in_order g.S.Stage.meaning c.args.lane c.requires.written in
+    omega (arith, slot, c.args.self.now.positions.ok.0)
 
 pub index_mut-requires : goal.index_mut-requires
 index_mut-requires g c =
-    let n = c.args.self.now in
-    let order = c.requires.stands.in_order in
-    let within = written-within g.W.Planned.plan n order g.S.Stage.meaning c.args.lane c.requires.written in
-    let here = written-here g.W.Planned.plan n order g.S.Stage.meaning c.args.lane c.requires.written in
-    let is = position-read g.W.Planned.plan n order c.args.lane.channel c.index.result.now within c.index.ensures in
-    omega (arith, is, here, order.parts, n.parts.ok.0)
+    let position = written-position g.W.Planned.plan c.args.self.now c.requires.stands.in_order g.S.Stage.meaning c.args.lane c.requires.written c.index.result.now c.index.ensures in
+    omega (arith, position, c.args.self.now.parts.ok.0)
 
 -- the part of the channel
 own : (g : _) (c : After-index_mut g)
@@ -43,13 +37,7 @@ own : (g : _) (c : After-index_mut g)
     × (slice_get c.args.self.now.parts.items c.index.result.now ≡ Some c.index_mut.result.now)
     × (slice_get (channel_parts g.W.Planned.plan c.args.self.now) (get_or c.args.self.now.here.items c.index.result.now 0) ≡ Some c.index_mut.result.now)
 own g c =
-    let n = c.args.self.now in
-    let plan = g.W.Planned.plan in
-    let l = c.args.lane in
-    let order = c.requires.stands.in_order in
-    let within = written-within plan n order g.S.Stage.meaning l c.requires.written in
-    read-part plan n order l.channel c.index.result.now c.index_mut.result.now (written-here plan n order g.S.Stage.meaning l c.requires.written)
-    (position-read plan n order l.channel c.index.result.now within c.index.ensures) c.index_mut.ensures.value
+    written-part g.W.Planned.plan c.args.self.now c.requires.stands.in_order g.S.Stage.meaning c.args.lane c.requires.written c.index.result.now c.index_mut.result.now c.index.ensures c.index_mut.ensures.value
 
 pub refuse-requires-clause-holds : goal.refuse-requires-clause-holds
 refuse-requires-clause-holds g c = (

@@ -5,13 +5,12 @@ use Rattle.pl_part.specs.PartCalls.{Taken}
 use Rattle.pl_threads.specs.NodesViews.{OwnNodesView}
 use Rattle.pl_channel.proofs.OneChannel.{places-stay, taken-one}
 use Rattle.pl_exec.specs.declared.nodes.ExecutorNodes.{ExecutorNodes}
-use Rattle.pl_exec.specs.ChannelRows.{row_position}
 use Rattle.pl_exec.specs.ExecutorNodes.{NodesStand, channel_parts}
 use Rattle.pl_exec.specs.Telling.{IsToldAt, KeepsOthers, SettlesAt, TellsAt, channel_seats}
 use Rattle.pl_exec.proofs.HeadLists.{heads-stay}
 use Rattle.pl_exec.proofs.MovedNodes.{head-stays, take-stands}
 use Rattle.pl_exec.proofs.ExecutorNodeLemmas.{made-here, next-here, routes-keep}
-use Rattle.pl_exec.proofs.PartsHere.{enters-position, enters-within, parts-set, position-read, positions-count, read-part}
+use Rattle.pl_exec.proofs.PartsHere.{enters-index, enters-part, enters-slot, parts-set}
 use Rattle.pl_exec.proofs.SeatLemmas.{all-tell, head-tells, others-told}
 use Rattle.pl_exec.proofs.ServedNodes.{serves-none, take-serves, told-served}
 use Rattle.pl_exec.proofs.ToldNodes.{keeps-told, makes-told, stands-told, told-from, view-told}
@@ -23,37 +22,24 @@ use Rattle.pl_exec.proofs.nodes.ExecutorNodesOwnNodes.take.Goals.{After-index_mu
 pub index-requires : goal.index-requires
 index-requires g c =
     let n = c.args.self.now in
-    let stands = c.requires.stands in
-    let within = enters-within g.W.Planned.plan n stands.in_order g.W.Named.world g.S.Stage.meaning g.S.Stage.stands_after g.T.Transport.state stands.nodes c.args.envelope.lane c.requires.here in
-    omega (arith, within, positions-count g.W.Planned.plan n stands.in_order, n.positions.ok.0)
+    let slot = enters-slot g.W.Planned.plan n c.requires.stands.in_order g.W.Named.world g.S.Stage.meaning g.S.Stage.stands_after g.T.Transport.state c.requires.stands.nodes c.args.envelope.lane c.requires.here in
+    omega (arith, slot, n.positions.ok.0)
 
 pub index_mut-part-requires : goal.index_mut-part-requires
 index_mut-part-requires g c =
     let n = c.args.self.now in
-    let plan = g.W.Planned.plan in
-    let l = c.args.envelope.lane in
-    let stands = c.requires.stands in
-    let within = enters-within plan n stands.in_order g.W.Named.world g.S.Stage.meaning g.S.Stage.stands_after g.T.Transport.state stands.nodes l c.requires.here in
-    let here = enters-position plan n stands.in_order g.W.Named.world g.S.Stage.meaning g.S.Stage.stands_after g.T.Transport.state stands.nodes l c.requires.here in
-    let is = position-read plan n stands.in_order l.channel c.index.result.now within c.index.ensures in
-    omega (arith, is, here, stands.in_order.parts, n.parts.ok.0)
+    let index = enters-index g.W.Planned.plan n c.requires.stands.in_order g.W.Named.world g.S.Stage.meaning g.S.Stage.stands_after g.T.Transport.state c.requires.stands.nodes c.args.envelope.lane c.requires.here c.index.result.now c.index.ensures in
+    omega (arith, index, n.parts.ok.0)
 
 -- ---- the part there
-
-is-here : (g : _) (c : After-index_mut-part g) → row_position c.args.self.now.here.items c.args.envelope.lane.channel < length c.args.self.now.here.items
-is-here g c = enters-position g.W.Planned.plan c.args.self.now c.requires.stands.in_order g.W.Named.world g.S.Stage.meaning g.S.Stage.stands_after g.T.Transport.state c.requires.stands.nodes c.args.envelope.lane c.requires.here
 
 own : (g : _) (c : After-index_mut-part g)
     → (c.args.envelope.lane.channel ≡ get_or c.args.self.now.here.items c.index.result.now 0) × (c.index.result.now < length c.args.self.now.here.items)
     × (slice_get c.args.self.now.parts.items c.index.result.now ≡ Some c.index_mut-part.result.now)
     × (slice_get (channel_parts g.W.Planned.plan c.args.self.now) (get_or c.args.self.now.here.items c.index.result.now 0) ≡ Some c.index_mut-part.result.now)
 own g c =
-    let n = c.args.self.now in
-    let plan = g.W.Planned.plan in
-    let l = c.args.envelope.lane in
-    let stands = c.requires.stands in
-    let within = enters-within plan n stands.in_order g.W.Named.world g.S.Stage.meaning g.S.Stage.stands_after g.T.Transport.state stands.nodes l c.requires.here in
-    read-part plan n stands.in_order l.channel c.index.result.now c.index_mut-part.result.now (is-here g c) (position-read plan n stands.in_order l.channel c.index.result.now within c.index.ensures) c.index_mut-part.ensures.value
+    enters-part g.W.Planned.plan c.args.self.now c.requires.stands.in_order g.W.Named.world g.S.Stage.meaning g.S.Stage.stands_after g.T.Transport.state c.requires.stands.nodes c.args.envelope.lane c.requires.here
+    c.index.result.now c.index_mut-part.result.now c.index.ensures c.index_mut-part.ensures.value
 
 pub take-requires : goal.take-requires
 take-requires g c =

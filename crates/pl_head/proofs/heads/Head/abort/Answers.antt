@@ -21,7 +21,7 @@ returns g c =
             flags = λ ys zs sizes s. same_flags sizes (removed_all inside.failure _ none) (c.fail.ensures.flags accepted ys (is_over inside.standing) sizes (unfailed inside.failure accepted (buffer_view inside.buffer) ys zs (is_over inside.standing) sizes none s));
             puts = c.fail-2.ensures.puts;
             same =
-                ap (λ (i : InputView). record { transport = inside.transport; channel = inside.channel; hop = inside.hop; taken = inside.taken; standing = inside.standing; failure = Some Aborted; is_closed = inside.is_closed; buffer = buffer_view c.fail.new.self; input = i }) c.fail-2.ensures.after;
+                ap (λ (i : InputView). record { transport = inside.transport; channel = inside.channel; hop = inside.hop; taken = inside.taken; standing = inside.standing; failure = Some Aborted; is_closed = inside.is_closed; buffer = buffer_view c.fail.new.self; input = i; gone = inside.gone; has_forgotten = inside.has_forgotten }) c.fail-2.ensures.after;
           };
       reads = search rules;
       failed = search rules;

@@ -47,7 +47,7 @@ returns-in-Ok g c =
     let ok = c.in-Ok.ensures in
     rw (← c.self.view_is)
     (accepts g.T.Transport.state g.T.Transport.may_refuse _ c.write.new.self _ _ _ bytes count (none g (goal.at.returns-in-Ok g c).In-Some) (λ ys sizes. c.in-Some.ensures.offers _ ys _ sizes)
-    ok.within ok.accepts w.called ok.sound w.window ok.full ok.told w.fail_at
+    ok.within ok.accepts w.called ok.sound w.window ok.full ok.fails_there w.fail_at
     (λ e. absurd (omega (arith, some, e)))
     (λ ys sizes t.
     let left = (c.in-Some.ensures.offers accepted ys _ sizes t).2 in
@@ -74,10 +74,10 @@ returns-in-Err g c =
       fail_at = search rules;
       within = search rules;
       full = search rules;
-      told = search rules;
-      untold = λ ys zs sizes e s.
+      fails_there = search rules;
+      fails_else = λ ys zs sizes e s.
           let size = (c.in-Some.ensures.offers _ ys _ sizes (unfailed inside.failure _ _ ys zs _ sizes none s)).1 in
-          subst (λ (size : ℕ). FailsNext (g.T.Transport.state inside.transport) ⊎ g.T.Transport.may_refuse inside.transport size) size c.in-Err.ensures.untold;
+          subst (λ (size : ℕ). FailsNext (g.T.Transport.state inside.transport) ⊎ g.T.Transport.may_refuse inside.transport size) size c.in-Err.ensures.fails_else;
       waits = λ ys zs sizes s. waits_for inside.failure _ _ ys zs _ sizes c.in-Some.bytes.now _ none (λ e. cc e) (c.in-Some.ensures.offers _ ys _ sizes) s;
       rests = search rules;
       stood = λ ys zs sizes s.

@@ -10,7 +10,7 @@ use Rattle.pl_live.proofs.live.Live.abort.Goals.{After-abort}
 
 -- the channel as it was
 abbrev seen : (g : _) (c : After-abort g) → LiveView g.row.S.Denot g.row.T.Denot
-seen g c = record { stations = c.self.inside.stations; room = c.self.inside.room; ends = c.self.inside.ends; told = c.self.inside.told; consumed = c.self.inside.consumed }
+seen g c = record { stations = c.self.inside.stations; room = c.self.inside.room; ends = c.self.inside.ends; delivered = c.self.inside.delivered; front = c.self.inside.front.items; gone = c.self.inside.gone; consumed = c.self.inside.consumed }
 
 made : (g : _) (c : After-abort g) (p : ChannelPlan) → LiveStands g.S.Stage.meaning g.S.Stage.stands_after g.T.Transport.state p (seen g c) → IsAborted g.S.Stage.meaning g.S.Stage.stands_after g.S.Stage.is_spent g.T.Transport.state p (seen g c) c.abort.new.self
 made g c p s = is-aborted g.S.Stage.meaning g.S.Stage.stands_after g.S.Stage.is_spent g.T.Transport.state p (seen g c) s c.abort.new.self c.abort.ensures.aborts c.abort.ensures.rests c.abort.ensures.count

@@ -27,6 +27,15 @@ read-requires g c = record {
       absurd (omega (arith, none, same, least, within));
 }
 
+pub returns-then-is_laden-clause-rests : goal.returns-then-is_laden-clause-rests
+returns-then-is_laden-clause-rests g c = λ p s. record {
+  stands = c.write_out.ensures.stands p (c.loop.invariant.stands p s);
+  settled = λ h w is consumed unfailed window. let laden = c.is_laden.ensures c.if-is_laden.true in absurd (omega (arith, laden, consumed));
+}
+
+pub returns-then-is_laden-clause-same : goal.returns-then-is_laden-clause-same
+returns-then-is_laden-clause-same g c = c.write_out.ensures.same ∙ ap (λ (l : LiveView _ _). record l { stations = c.write_out.new.self.stations }) c.loop.invariant.same
+
 pub returns-then-not-read-clause-rests : goal.returns-then-not-read-clause-rests
 returns-then-not-read-clause-rests g c = λ p s.
     let loop = c.loop.invariant.stands p s in

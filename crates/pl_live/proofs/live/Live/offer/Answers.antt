@@ -11,7 +11,7 @@ use Rattle.pl_live.proofs.live.Live.offer.Goals.{Then-move_head}
 
 -- the channel as it was
 abbrev seen : (g : _) (c : goal.Then-move_head g) → LiveView g.row.S.Denot g.row.T.Denot
-seen g c = record { stations = c.self.inside.stations; room = c.self.inside.room; ends = c.self.inside.ends; told = c.self.inside.told; consumed = c.self.inside.consumed }
+seen g c = record { stations = c.self.inside.stations; room = c.self.inside.room; ends = c.self.inside.ends; delivered = c.self.inside.delivered; front = c.self.inside.front.items; gone = c.self.inside.gone; consumed = c.self.inside.consumed }
 
 made : (g : _) (c : goal.Then-move_head g) (p : ChannelPlan) → LiveStands g.S.Stage.meaning g.S.Stage.stands_after g.T.Transport.state p (seen g c)
     → IsOffered g.S.Stage.meaning g.S.Stage.stands_after g.S.Stage.is_spent g.T.Transport.state g.T.Transport.may_refuse p (seen g c) c.move_head.new.self
@@ -40,7 +40,7 @@ pub returns-else-move_head-clause-written : goal.returns-else-move_head-clause-w
 returns-else-move_head-clause-written g c = λ none p w h s window is unfailed.
     let was = c.move_head.ensures.idle c.if-move_head.false in
     not-offered g.S.Stage.meaning g.S.Stage.stands_after g.S.Stage.is_spent g.T.Transport.state g.T.Transport.may_refuse p
-    (record { stations = c.self.inside.stations; room = c.self.inside.room; ends = c.self.inside.ends; told = c.self.inside.told; consumed = c.self.inside.consumed })
+    (record { stations = c.self.inside.stations; room = c.self.inside.room; ends = c.self.inside.ends; delivered = c.self.inside.delivered; front = c.self.inside.front.items; gone = c.self.inside.gone; consumed = c.self.inside.consumed })
     (subst (LiveStands g.S.Stage.meaning g.S.Stage.stands_after g.T.Transport.state p) (sym c.self.view_is) s)
     (subst (λ (b : Bool). MayWrite g.T.Transport.state c.self.inside.stations.nodes.parts.items 0 b) c.if-move_head.false c.move_head.ensures.enabled) h
     (subst (λ (k : Stations (Channels _ _)). head_in k.nodes.parts.items ≡ Some h) was is)

@@ -10,7 +10,7 @@ use Rattle.pl_live.proofs.live.Live.read.Goals as goal
 
 -- the channel as it was
 abbrev seen : (g : _) (c : goal.After-move_head g) → LiveView g.row.S.Denot g.row.T.Denot
-seen g c = record { stations = c.self.inside.stations; room = c.self.inside.room; ends = c.self.inside.ends; told = c.self.inside.told; consumed = c.self.inside.consumed }
+seen g c = record { stations = c.self.inside.stations; room = c.self.inside.room; ends = c.self.inside.ends; delivered = c.self.inside.delivered; front = c.self.inside.front.items; gone = c.self.inside.gone; consumed = c.self.inside.consumed }
 
 made : (g : _) (c : goal.After-move_head g) (p : ChannelPlan) → LiveStands g.S.Stage.meaning g.S.Stage.stands_after g.T.Transport.state p (seen g c) → c.move_head.result ≡ true
     → IsRead g.S.Stage.meaning g.S.Stage.stands_after g.S.Stage.is_spent g.T.Transport.state g.T.Transport.may_refuse p (seen g c) c.move_head.new.self

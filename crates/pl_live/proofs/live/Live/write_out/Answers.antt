@@ -7,7 +7,7 @@ loop-init g c = record {
   stands = λ p s. s;
   same = refl;
   reads = (refl, refl);
-  sent = λ p s. let within = s.goes.consumed_within in omega (arith, within);
+  sent = λ p s. let within = s.handed.consumed_within in omega (arith, within);
 }
 
 pub loop-preserved : goal.loop-preserved

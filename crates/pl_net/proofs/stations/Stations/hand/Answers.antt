@@ -11,7 +11,7 @@ use Rattle.pl_net.proofs.stations.Stations.hand.Goals as goal
 pub index_mut-requires : goal.index_mut-requires
 index_mut-requires g c =
     let w = c.requires.stands in
-    let size = c.args.self.now.executors.ok.0 in
+    let size = c.args.self.now.stations.ok.0 in
     let t = hand-there g.N.Nodes.view_of g.N.Nodes.stands w.0 w.1 (stations_view c.args.self.now w.2) w.3 c.args.me c.args.self.now.capacity (omega (arith, c.requires.there, size)) c.deref.result.now c.deref.ensures.value c.oldest_target.result
     c.oldest_target.ensures c.in-Some.target c.in-Some.is in
     omega (arith, t, size)
@@ -19,7 +19,7 @@ index_mut-requires g c =
 pub hand_to-requires-clause-there : goal.hand_to-requires-clause-there
 hand_to-requires-clause-there g c =
     let w = c.requires.stands in
-    let size = c.args.self.now.executors.ok.0 in
+    let size = c.args.self.now.stations.ok.0 in
     let t = hand-there g.N.Nodes.view_of g.N.Nodes.stands w.0 w.1 (stations_view c.args.self.now w.2) w.3 c.args.me c.args.self.now.capacity (omega (arith, c.requires.there, size)) c.deref.result.now c.deref.ensures.value c.oldest_target.result
     c.oldest_target.ensures c.in-Some.target c.in-Some.is in
     (c.requires.there, omega (arith, t, size))
@@ -27,23 +27,23 @@ hand_to-requires-clause-there g c =
 pub hand_to-requires-clause-memory : goal.hand_to-requires-clause-memory
 hand_to-requires-clause-memory g c =
     let w = c.requires.stands in
-    let size = c.args.self.now.executors.ok.0 in
-    let within : c.args.me < length c.args.self.now.executors.items = omega (arith, c.requires.there, size) in
+    let size = c.args.self.now.stations.ok.0 in
+    let within : c.args.me < length c.args.self.now.stations.items = omega (arith, c.requires.there, size) in
     let t = hand-there g.N.Nodes.view_of g.N.Nodes.stands w.0 w.1 (stations_view c.args.self.now w.2) w.3 c.args.me c.args.self.now.capacity within c.deref.result.now c.deref.ensures.value c.oldest_target.result
     c.oldest_target.ensures c.in-Some.target c.in-Some.is in
-    subst (λ (o : Option StationView). 0 < option_map_or (λ (e : StationView). e.room) o 0) (sym (at-set_here c.args.self.now.executors.items c.in-Some.target c.reserve.new.self t)) (c.in_default.ensures.room)
+    subst (λ (o : Option StationView). 0 < option_map_or (λ (e : StationView). e.room) o 0) (sym (at-set_here c.args.self.now.stations.items c.in-Some.target c.reserve.new.self t)) (c.in_default.ensures.room)
 
 pub hand_to-requires-clause-stands : goal.hand_to-requires-clause-stands
 hand_to-requires-clause-stands g c =
     let w = c.requires.stands in
-    let size = c.args.self.now.executors.ok.0 in
+    let size = c.args.self.now.stations.ok.0 in
     let view_of = g.N.Nodes.view_of in
     let stands = g.N.Nodes.stands in
     let from = stations_view c.args.self.now w.2 in
-    let within : c.args.me < length c.args.self.now.executors.items = omega (arith, c.requires.there, size) in
+    let within : c.args.me < length c.args.self.now.stations.items = omega (arith, c.requires.there, size) in
     let t = hand-there view_of stands w.0 w.1 from w.3 c.args.me c.args.self.now.capacity within c.deref.result.now c.deref.ensures.value c.oldest_target.result c.oldest_target.ensures c.in-Some.target c.in-Some.is in
     let p = hand-oldest view_of stands w.0 w.1 from w.3 c.args.me c.args.self.now.capacity within c.deref.result.now c.deref.ensures.value c.oldest_target.result c.oldest_target.ensures c.in-Some.target c.in-Some.is in
-    let es = c.args.self.now.executors.items in
+    let es = c.args.self.now.stations.items in
     let b = c.index_mut.result.now in
     let r = replaces-set es c.in-Some.target b c.reserve.new.self (slice_get_read es (length es) c.in-Some.target b refl t c.index_mut.ensures.value) in (
       w.0,
@@ -56,20 +56,20 @@ hand_to-requires-clause-stands g c =
 
 pub returns-in-None-clause-none : goal.returns-in-None-clause-none
 returns-in-None-clause-none g c = λ is world x backlogs h.
-    let size = c.args.self.now.executors.ok.0 in
+    let size = c.args.self.now.stations.ok.0 in
     hand-none g.N.Nodes.view_of g.N.Nodes.stands world x (stations_view c.args.self.now backlogs) h c.args.me c.args.self.now.capacity (omega (arith, c.requires.there, size)) c.deref.result.now c.deref.ensures.value c.oldest_target.result
     c.oldest_target.ensures c.in-None.is
 
 pub returns-in_default-clause-hands : goal.returns-in_default-clause-hands
 returns-in_default-clause-hands g c = λ is world x backlogs h.
-    let size = c.args.self.now.executors.ok.0 in
+    let size = c.args.self.now.stations.ok.0 in
     let view_of = g.N.Nodes.view_of in
     let stands = g.N.Nodes.stands in
     let from = stations_view c.args.self.now backlogs in
-    let within : c.args.me < length c.args.self.now.executors.items = omega (arith, c.requires.there, size) in
+    let within : c.args.me < length c.args.self.now.stations.items = omega (arith, c.requires.there, size) in
     let t = hand-there view_of stands world x from h c.args.me c.args.self.now.capacity within c.deref.result.now c.deref.ensures.value c.oldest_target.result c.oldest_target.ensures c.in-Some.target c.in-Some.is in
     let p = hand-oldest view_of stands world x from h c.args.me c.args.self.now.capacity within c.deref.result.now c.deref.ensures.value c.oldest_target.result c.oldest_target.ensures c.in-Some.target c.in-Some.is in
-    let es = c.args.self.now.executors.items in
+    let es = c.args.self.now.stations.items in
     let b = c.index_mut.result.now in
     let r = replaces-set es c.in-Some.target b c.reserve.new.self (slice_get_read es (length es) c.in-Some.target b refl t c.index_mut.ensures.value) in
     let q = ap (λ (e : StationView). e.queue) c.reserve.ensures.same in
@@ -81,32 +81,32 @@ returns-in_default-clause-hands g c = λ is world x backlogs h.
 pub returns-in-Err-clause-err : goal.returns-in-Err-clause-err
 returns-in-Err-clause-err g c = record {
   nodes = refl;
-  executors = same-waits c.args.self.now.executors.items c.in-Some.target c.index_mut.result.now c.reserve.new.self c.index_mut.ensures.value (ap waits_of c.reserve.ensures.same);
+  stations = same-waits c.args.self.now.stations.items c.in-Some.target c.index_mut.result.now c.reserve.new.self c.index_mut.ensures.value (ap waits_of c.reserve.ensures.same);
   work = refl;
 }
 
 pub returns-in-Err-clause-stays : goal.returns-in-Err-clause-stays
 returns-in-Err-clause-stays g c = λ world x backlogs h.
-    let size = c.args.self.now.executors.ok.0 in
-    let within : c.args.me < length c.args.self.now.executors.items = omega (arith, c.requires.there, size) in
+    let size = c.args.self.now.stations.ok.0 in
+    let within : c.args.me < length c.args.self.now.stations.items = omega (arith, c.requires.there, size) in
     let t = hand-there g.N.Nodes.view_of g.N.Nodes.stands world x (stations_view c.args.self.now backlogs) h c.args.me c.args.self.now.capacity within c.deref.result.now c.deref.ensures.value c.oldest_target.result
     c.oldest_target.ensures c.in-Some.target c.in-Some.is in
-    let es = c.args.self.now.executors.items in
+    let es = c.args.self.now.stations.items in
     let b = c.index_mut.result.now in
     let r = replaces-set es c.in-Some.target b c.reserve.new.self (slice_get_read es (length es) c.in-Some.target b refl t c.index_mut.ensures.value) in
     room-stands g.N.Nodes.view_of g.N.Nodes.stands world x (stations_view c.args.self.now backlogs) h c.in-Some.target (set es c.in-Some.target c.reserve.new.self) b c.reserve.new.self r (ap (λ (e : StationView). e.queue) c.reserve.ensures.same) (ap (λ (e : StationView). e.waiting) c.reserve.ensures.same)
 
 pub returns-in-Err-clause-wanted : goal.returns-in-Err-clause-wanted
 returns-in-Err-clause-wanted g c = λ world x backlogs h.
-    let size = c.args.self.now.executors.ok.0 in
+    let size = c.args.self.now.stations.ok.0 in
     let p = hand-oldest g.N.Nodes.view_of g.N.Nodes.stands world x (stations_view c.args.self.now backlogs) h c.args.me c.args.self.now.capacity (omega (arith, c.requires.there, size)) c.deref.result.now c.deref.ensures.value c.oldest_target.result
     c.oldest_target.ensures c.in-Some.target c.in-Some.is in
     (p.i, p.open_at)
 
 pub returns-in-Err-clause-refused : goal.returns-in-Err-clause-refused
 returns-in-Err-clause-refused g c = λ world x backlogs h.
-    let size = c.args.self.now.executors.ok.0 in
-    let es = c.args.self.now.executors.items in
+    let size = c.args.self.now.stations.ok.0 in
+    let es = c.args.self.now.stations.items in
     let within : c.args.me < length es = omega (arith, c.requires.there, size) in
     let from = stations_view c.args.self.now backlogs in
     let p = hand-oldest g.N.Nodes.view_of g.N.Nodes.stands world x from h c.args.me c.args.self.now.capacity within c.deref.result.now c.deref.ensures.value c.oldest_target.result c.oldest_target.ensures c.in-Some.target c.in-Some.is in

@@ -9,7 +9,7 @@ use Rattle.pl_net.proofs.stations.Stations.hand_to.Goals as goal
 
 pub returns-clause-hands : goal.returns-clause-hands
 returns-clause-hands g c = λ world x backlogs k h found.
-    let es = c.args.self.now.executors.items in
+    let es = c.args.self.now.stations.items in
     let o = c.args.me in
     let t = c.args.target in
     let a = c.index_mut.result.now in
@@ -17,7 +17,7 @@ returns-clause-hands g c = λ world x backlogs k h found.
     let es2 = set es o a' in
     let b = c.index_mut-in-Some.result.now in
     let b' = c.hand_over.new.self in
-    let size = c.args.self.now.executors.ok.0 in
+    let size = c.args.self.now.stations.ok.0 in
     let r = replaces-set es o a a' (slice_get_read es (length es) o a refl (omega (arith, c.requires.there.0, size)) c.index_mut.ensures.value) in
     let s = replaces-set es2 t b b' (slice_get_read es2 (length es2) t b refl (omega (arith, c.requires.there.1, size, length-set es o a')) c.index_mut-in-Some.ensures.value) in
     let from = stations_view c.args.self.now backlogs in

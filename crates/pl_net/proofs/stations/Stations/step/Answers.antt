@@ -34,10 +34,10 @@ take-requires-clause-number g c =
     (sym c.target-target.ensures ∙ c.if-target-me.true)
 
 -- the executor that runs
-own : (g : _) (c : goal.After-index_mut g) → slice_get c.args.self.now.executors.items c.args.me ≡ Some c.index_mut.result.now
+own : (g : _) (c : goal.After-index_mut g) → slice_get c.args.self.now.stations.items c.args.me ≡ Some c.index_mut.result.now
 own g c =
-    let es = c.args.self.now.executors.items in
-    slice_get_read es (length es) c.args.me c.index_mut.result.now refl (omega (arith, c.requires.there, c.args.self.now.executors.ok.0)) c.index_mut.ensures.value
+    let es = c.args.self.now.stations.items in
+    slice_get_read es (length es) c.args.me c.index_mut.result.now refl (omega (arith, c.requires.there, c.args.self.now.stations.ok.0)) c.index_mut.ensures.value
 
 -- what its backlog is asked for
 asks : (g : _) (c : goal.After-index_mut g) → (c.target-target.result < length c.index_mut.result.now.waiting.targets) × HasPlaces (stops_for c.index_mut.result.now.waiting c.target-target.result) (c.in-Some.envelope.lane ∷ [])
@@ -45,8 +45,8 @@ asks : (g : _) (c : goal.After-index_mut g) → (c.target-target.result < length
 asks g c =
     let w = c.requires.stands in
     let a = c.index_mut.result.now in
-    let es = set c.args.self.now.executors.items c.args.me a in
-    let r = replaces-set c.args.self.now.executors.items c.args.me a a (own g c) in
+    let es = set c.args.self.now.stations.items c.args.me a in
+    let r = replaces-set c.args.self.now.stations.items c.args.me a a (own g c) in
     let away : (g.N.Nodes.view_of c.args.self.now.nodes).lanes.target c.in-Some.envelope.lane ≢ c.args.me = λ e. c.if-target-me.false (c.target-target.ensures ∙ e) in
     let from = stations_view c.args.self.now w.1 in (
       subst (λ (k : ℕ). k < length a.waiting.targets) (sym c.target-target.ensures) (add-there g.N.Nodes.view_of g.N.Nodes.stands w.0 c.args.me from w.2 c.in-Some.envelope c.next.new.self c.in-Some.ensures.front c.in-Some.ensures.stopped away es a a r),
@@ -72,16 +72,16 @@ returns-then-target-me-clause-steps g c = λ t world backlogs h.
       call-stands g.N.Nodes.view_of g.N.Nodes.stands world c.args.me (stations_view c.args.self.now backlogs) h c.in-Some.envelope c.next.new.self c.in-Some.ensures.front c.in-Some.ensures.stopped here
           c.take.new.self c.take.new.work c.take.ensures.view (c.take.ensures.stands world h.hold good) (c.take.ensures.makes world h.hold good),
       step-is g.N.Nodes.view_of g.N.Nodes.stands world c.args.me (stations_view c.args.self.now backlogs) h c.in-Some.envelope c.next.new.self c.in-Some.ensures.front c.in-Some.ensures.stopped g.N.Nodes.takes c.in-Some.ensures.room
-          (inl (record { here = here; taken = c.take.ensures.takes; executors = refl; backlogs = refl })),
+          (inl (record { here = here; taken = c.take.ensures.takes; stations = refl; backlogs = refl })),
     )
 
 pub returns-else-target-me-clause-steps : goal.returns-else-target-me-clause-steps
 returns-else-target-me-clause-steps g c = λ t world backlogs h.
-    let es = c.args.self.now.executors.items in
+    let es = c.args.self.now.stations.items in
     let a = c.index_mut.result.now in
     let a' = c.add.new.self in
     let away : (g.N.Nodes.view_of c.args.self.now.nodes).lanes.target c.in-Some.envelope.lane ≢ c.args.me = λ e. c.if-target-me.false (c.target-target.ensures ∙ e) in
-    let at = slice_get_read es (length es) c.args.me a refl (omega (arith, c.requires.there, c.args.self.now.executors.ok.0)) c.index_mut.ensures.value in
+    let at = slice_get_read es (length es) c.args.me a refl (omega (arith, c.requires.there, c.args.self.now.stations.ok.0)) c.index_mut.ensures.value in
     let r = replaces-set es c.args.me a a' at in
     let adds = subst (λ (k : ℕ). IsAdded a k c.in-Some.envelope a') c.target-target.ensures c.add.ensures in
     let view_of = g.N.Nodes.view_of in

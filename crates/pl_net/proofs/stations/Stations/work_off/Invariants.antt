@@ -9,9 +9,9 @@ use Rattle.pl_net.proofs.stations.Stations.work_off.Given as goal
 abbrev pub invariant-loop : goal.invariant-loop
 invariant-loop g l = record {
   capacity : l.self.capacity ≡ l.fn.self.capacity;
-  count : vec_len l.self.executors ≡ vec_len l.fn.self.executors;
+  count : vec_len l.self.stations ≡ vec_len l.fn.self.stations;
   steps : (world : World) (backlogs : ℕ → List (Entry (Unit {0}))) → StationsStand g.N.Nodes.view_of g.N.Nodes.stands world l.me (stations_view l.fn.self backlogs)
       → (after : ℕ → List (Entry (Unit {0}))) × StationsStand g.N.Nodes.view_of g.N.Nodes.stands world l.me (stations_view l.self after)
       × ((n : ℕ) × Steps g.N.Nodes.view_of g.N.Nodes.takes l.me n (stations_view l.fn.self backlogs) (stations_view l.self after));
-  done : done_by (g.N.Nodes.view_of l.fn.self.nodes) l.me l.fn.self.executors.items + l.counter ≤ done_by (g.N.Nodes.view_of l.self.nodes) l.me l.self.executors.items;
+  done : done_by (g.N.Nodes.view_of l.fn.self.nodes) l.me l.fn.self.stations.items + l.counter ≤ done_by (g.N.Nodes.view_of l.self.nodes) l.me l.self.stations.items;
 }

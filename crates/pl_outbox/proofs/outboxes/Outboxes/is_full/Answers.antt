@@ -14,7 +14,7 @@ invariant_of-self g c =
     let os = c.self.inside.outboxes.items in
     let at = slice_get_read os (length os) c.args.target c.index_mut.result.now refl (subst (λ (v : OutboxesView). c.args.target < length v.outboxes) (sym c.self.view_is) c.requires.there) c.index_mut.ensures.value in
     let same = same-set os c.args.target c.index_mut.result.now c.is_full.new.self at c.is_full.ensures.same in (
-      subst (λ (bs : List OutboxView). IsOutboxes g.W.Named.world (record { outboxes = bs; waiting = c.self.inside.waiting; tried = c.self.inside.tries.tried })) same c.self.invariant.0,
+      subst (λ (bs : List OutboxView). IsOutboxes g.W.Named.world (record { outboxes = bs; waiting = c.self.inside.waiting; tried = c.self.inside.tries.tried; ways = c.self.inside.ways.items })) same c.self.invariant.0,
       c.self.invariant.1 ∙ ap (λ (bs : List OutboxView). length bs) same,
     )
 
@@ -23,7 +23,7 @@ returns-clause-same g c =
     let os = c.self.inside.outboxes.items in
     let at = slice_get_read os (length os) c.args.target c.index_mut.result.now refl (subst (λ (v : OutboxesView). c.args.target < length v.outboxes) (sym c.self.view_is) c.requires.there) c.index_mut.ensures.value in
     let same = same-set os c.args.target c.index_mut.result.now c.is_full.new.self at c.is_full.ensures.same in
-    ap (λ (bs : List OutboxView). record { outboxes = bs; waiting = c.self.inside.waiting; tried = c.self.inside.tries.tried }) (sym same) ∙ c.self.view_is
+    ap (λ (bs : List OutboxView). record { outboxes = bs; waiting = c.self.inside.waiting; tried = c.self.inside.tries.tried; ways = c.self.inside.ways.items }) (sym same) ∙ c.self.view_is
 
 pub returns-clause-full : goal.returns-clause-full
 returns-clause-full g c = λ is.

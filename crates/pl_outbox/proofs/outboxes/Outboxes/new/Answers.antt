@@ -11,7 +11,7 @@ invariant_of-result g c =
     let w = c.in_ok-new.field-0 in
     let outboxes = c.args.outboxes.items in
     let targets = sym (length-map w.targets (λ b. b.stopped)) ∙ ap length c.in_ok-new.ensures.places ∙ length-map c.args.places.now no_stops ∙ c.requires.places in (
-      new-hold g.W.Named.world outboxes w c.in_ok-new-2.field-0.tried c.requires.new c.in_ok-new.ensures.empty targets c.in_ok-new.ensures.added c.requires.few,
+      new-hold g.W.Named.world outboxes w c.in_ok-new-2.field-0.tried c.args.ways.items c.requires.new c.in_ok-new.ensures.empty targets c.in_ok-new.ensures.added c.requires.few,
       omega (arith, ap (λ (t : TriesView). t.count) c.in_ok-new-2.ensures, c.len.ensures, c.args.outboxes.ok.0),
     )
 

@@ -9,7 +9,7 @@ use Rattle.pl_outbox.proofs.outboxes.Outboxes.offer.Goals as goal
 pub invariant_of-self : goal.invariant_of-self
 invariant_of-self g c =
     let w = c.self.inside.waiting in (
-      full-hold g.W.Named.world c.self.inside.outboxes.items w c.self.inside.tries.tried c.self.invariant.0 c.args.target w c.add.new.self.tried (λ entries holds. holds) refl (λ y. refl) refl,
+      full-hold g.W.Named.world c.self.inside.outboxes.items w c.self.inside.tries.tried c.self.inside.ways.items c.self.invariant.0 c.args.target w c.add.new.self.tried (λ entries holds. holds) refl (λ y. refl) refl,
       c.add.ensures.count ∙ c.self.invariant.1,
     )
 
@@ -17,8 +17,8 @@ pub returns-then-is_full-clause-offers : goal.returns-then-is_full-clause-offers
 returns-then-is_full-clause-offers g c =
     let os = c.self.inside.outboxes.items in
     let w = c.self.inside.waiting in
-    subst (λ (v : OutboxesView). Offers v c.args.target Full (record { outboxes = os; waiting = w; tried = c.add.new.self.tried })) (c.self.view_is ∙ c.is_full.ensures.same)
-    (full-offers g.W.Named.world os w c.self.inside.tries.tried c.self.invariant.0 c.args.target w c.add.new.self.tried (λ entries holds. holds) refl (λ y. refl) refl)
+    subst (λ (v : OutboxesView). Offers v c.args.target Full (record { outboxes = os; waiting = w; tried = c.add.new.self.tried; ways = c.self.inside.ways.items })) (c.self.view_is ∙ c.is_full.ensures.same)
+    (full-offers g.W.Named.world os w c.self.inside.tries.tried c.self.inside.ways.items c.self.invariant.0 c.args.target w c.add.new.self.tried (λ entries holds. holds) refl (λ y. refl) refl)
 
 pub returns-then-is_full-clause-full : goal.returns-then-is_full-clause-full
 returns-then-is_full-clause-full g c = c.is_full.ensures.full (cc)
@@ -27,8 +27,8 @@ pub returns-then-is_full-clause-stays : goal.returns-then-is_full-clause-stays
 returns-then-is_full-clause-stays g c =
     let os = c.self.inside.outboxes.items in
     let w = c.self.inside.waiting in
-    subst (λ (v : OutboxesView). Stays v (record { outboxes = os; waiting = w; tried = c.add.new.self.tried })) (c.self.view_is ∙ c.is_full.ensures.same)
-    (full-stays g.W.Named.world os w c.self.inside.tries.tried c.self.invariant.0 c.args.target w c.add.new.self.tried (λ entries holds. holds) refl (λ y. refl) refl)
+    subst (λ (v : OutboxesView). Stays v (record { outboxes = os; waiting = w; tried = c.add.new.self.tried; ways = c.self.inside.ways.items })) (c.self.view_is ∙ c.is_full.ensures.same)
+    (full-stays g.W.Named.world os w c.self.inside.tries.tried c.self.inside.ways.items c.self.invariant.0 c.args.target w c.add.new.self.tried (λ entries holds. holds) refl (λ y. refl) refl)
 
 pub returns-then-is_full-clause-tried : goal.returns-then-is_full-clause-tried
 returns-then-is_full-clause-tried g c = λ y.

@@ -14,13 +14,13 @@ use Rattle.pl_outbox.proofs.outboxes.Outboxes.offer_oldest.Goals as goal
 
 pub returns-in_default-clause-offers : goal.returns-in_default-clause-offers
 returns-in_default-clause-offers g c =
-    subst (λ (v : OutboxesView). Offers v c.args.target Nothing (record { outboxes = c.self.inside.outboxes.items; waiting = c.take.new.self; tried = c.self.inside.tries.tried })) c.self.view_is
-    (nothing-offers g.W.Named.world c.self.inside.outboxes.items c.self.inside.waiting c.self.inside.tries.tried c.self.invariant.0 c.args.target c.take.new.self (c.in_default.ensures.first c.self.invariant.0.entries c.self.invariant.0.holds))
+    subst (λ (v : OutboxesView). Offers v c.args.target Nothing (record { outboxes = c.self.inside.outboxes.items; waiting = c.take.new.self; tried = c.self.inside.tries.tried; ways = c.self.inside.ways.items })) c.self.view_is
+    (nothing-offers g.W.Named.world c.self.inside.outboxes.items c.self.inside.waiting c.self.inside.tries.tried c.self.inside.ways.items c.self.invariant.0 c.args.target c.take.new.self (c.in_default.ensures.first c.self.invariant.0.entries c.self.invariant.0.holds))
 
 pub returns-in_default-clause-stays : goal.returns-in_default-clause-stays
 returns-in_default-clause-stays g c =
-    subst (λ (v : OutboxesView). Stays v (record { outboxes = c.self.inside.outboxes.items; waiting = c.take.new.self; tried = c.self.inside.tries.tried })) c.self.view_is
-    (nothing-stays g.W.Named.world c.self.inside.outboxes.items c.self.inside.waiting c.self.inside.tries.tried c.self.invariant.0 c.args.target c.take.new.self (c.in_default.ensures.first c.self.invariant.0.entries c.self.invariant.0.holds))
+    subst (λ (v : OutboxesView). Stays v (record { outboxes = c.self.inside.outboxes.items; waiting = c.take.new.self; tried = c.self.inside.tries.tried; ways = c.self.inside.ways.items })) c.self.view_is
+    (nothing-stays g.W.Named.world c.self.inside.outboxes.items c.self.inside.waiting c.self.inside.tries.tried c.self.inside.ways.items c.self.invariant.0 c.args.target c.take.new.self (c.in_default.ensures.first c.self.invariant.0.entries c.self.invariant.0.holds))
 
 pub returns-in_default-clause-tried : goal.returns-in_default-clause-tried
 returns-in_default-clause-tried g c = λ y. ap (λ (v : OutboxesView). was_tried v y) (returns-in_default-clause-offers g c).0
@@ -31,19 +31,19 @@ pub offer-requires-clause-next : goal.offer-requires-clause-next
 offer-requires-clause-next g c =
     let os = c.self.inside.outboxes.items in
     let at = slice_get_read os (length os) c.args.target c.index_mut.result.now refl (subst (λ (v : OutboxesView). c.args.target < length v.outboxes) (sym c.self.view_is) c.requires.there) c.index_mut.ensures.value in
-    (may-offer g.W.Named.world os c.self.inside.waiting c.self.inside.tries.tried c.self.invariant.0 c.args.target c.in-Some.envelope c.in-Some.admitted c.take.new.self (c.in-Some.ensures.first c.self.invariant.0.entries c.self.invariant.0.holds) c.index_mut.result.now at).0
+    (may-offer g.W.Named.world os c.self.inside.waiting c.self.inside.tries.tried c.self.inside.ways.items c.self.invariant.0 c.args.target c.in-Some.envelope c.in-Some.admitted c.take.new.self (c.in-Some.ensures.first c.self.invariant.0.entries c.self.invariant.0.holds) c.index_mut.result.now at).0
 
 pub offer-requires-clause-small : goal.offer-requires-clause-small
 offer-requires-clause-small g c =
     let os = c.self.inside.outboxes.items in
     let at = slice_get_read os (length os) c.args.target c.index_mut.result.now refl (subst (λ (v : OutboxesView). c.args.target < length v.outboxes) (sym c.self.view_is) c.requires.there) c.index_mut.ensures.value in
-    (may-offer g.W.Named.world os c.self.inside.waiting c.self.inside.tries.tried c.self.invariant.0 c.args.target c.in-Some.envelope c.in-Some.admitted c.take.new.self (c.in-Some.ensures.first c.self.invariant.0.entries c.self.invariant.0.holds) c.index_mut.result.now at).1.small
+    (may-offer g.W.Named.world os c.self.inside.waiting c.self.inside.tries.tried c.self.inside.ways.items c.self.invariant.0 c.args.target c.in-Some.envelope c.in-Some.admitted c.take.new.self (c.in-Some.ensures.first c.self.invariant.0.entries c.self.invariant.0.holds) c.index_mut.result.now at).1.small
 
 pub offer-requires-clause-fits : goal.offer-requires-clause-fits
 offer-requires-clause-fits g c =
     let os = c.self.inside.outboxes.items in
     let at = slice_get_read os (length os) c.args.target c.index_mut.result.now refl (subst (λ (v : OutboxesView). c.args.target < length v.outboxes) (sym c.self.view_is) c.requires.there) c.index_mut.ensures.value in
-    (may-offer g.W.Named.world os c.self.inside.waiting c.self.inside.tries.tried c.self.invariant.0 c.args.target c.in-Some.envelope c.in-Some.admitted c.take.new.self (c.in-Some.ensures.first c.self.invariant.0.entries c.self.invariant.0.holds) c.index_mut.result.now at).1.fits
+    (may-offer g.W.Named.world os c.self.inside.waiting c.self.inside.tries.tried c.self.inside.ways.items c.self.invariant.0 c.args.target c.in-Some.envelope c.in-Some.admitted c.take.new.self (c.in-Some.ensures.first c.self.invariant.0.entries c.self.invariant.0.holds) c.index_mut.result.now at).1.fits
 
 -- ---- it is sent
 
@@ -51,7 +51,7 @@ pub invariant_of-self-in-Ok : goal.invariant_of-self-in-Ok
 invariant_of-self-in-Ok g c =
     let os = c.self.inside.outboxes.items in
     let at = slice_get_read os (length os) c.args.target c.index_mut.result.now refl (subst (λ (v : OutboxesView). c.args.target < length v.outboxes) (sym c.self.view_is) c.requires.there) c.index_mut.ensures.value in (
-      handed-hold g.W.Named.world os c.self.inside.waiting c.self.inside.tries.tried c.self.invariant.0 c.args.target c.in-Some.envelope c.in-Some.admitted c.take.new.self (c.in-Some.ensures.first c.self.invariant.0.entries c.self.invariant.0.holds)
+      handed-hold g.W.Named.world os c.self.inside.waiting c.self.inside.tries.tried c.self.inside.ways.items c.self.invariant.0 c.args.target c.in-Some.envelope c.in-Some.admitted c.take.new.self (c.in-Some.ensures.first c.self.invariant.0.entries c.self.invariant.0.holds)
           c.index_mut.result.now c.offer.new.self at c.in-Ok.ensures c.take.ensures.added,
       c.self.invariant.1 ∙ sym (length-set os c.args.target c.offer.new.self),
     )
@@ -60,16 +60,16 @@ pub returns-in-Ok-clause-offers : goal.returns-in-Ok-clause-offers
 returns-in-Ok-clause-offers g c =
     let os = c.self.inside.outboxes.items in
     let at = slice_get_read os (length os) c.args.target c.index_mut.result.now refl (subst (λ (v : OutboxesView). c.args.target < length v.outboxes) (sym c.self.view_is) c.requires.there) c.index_mut.ensures.value in
-    subst (λ (v : OutboxesView). Offers v c.args.target Handed (record { outboxes = set os c.args.target c.offer.new.self; waiting = c.take.new.self; tried = c.self.inside.tries.tried })) c.self.view_is
-    (handed-offers g.W.Named.world os c.self.inside.waiting c.self.inside.tries.tried c.self.invariant.0 c.args.target c.in-Some.envelope c.in-Some.admitted c.take.new.self (c.in-Some.ensures.first c.self.invariant.0.entries c.self.invariant.0.holds)
+    subst (λ (v : OutboxesView). Offers v c.args.target Handed (record { outboxes = set os c.args.target c.offer.new.self; waiting = c.take.new.self; tried = c.self.inside.tries.tried; ways = c.self.inside.ways.items })) c.self.view_is
+    (handed-offers g.W.Named.world os c.self.inside.waiting c.self.inside.tries.tried c.self.inside.ways.items c.self.invariant.0 c.args.target c.in-Some.envelope c.in-Some.admitted c.take.new.self (c.in-Some.ensures.first c.self.invariant.0.entries c.self.invariant.0.holds)
     c.index_mut.result.now c.offer.new.self at c.in-Ok.ensures c.take.ensures.added c.in-Some.ensures.first)
 
 pub returns-in-Ok-clause-stays : goal.returns-in-Ok-clause-stays
 returns-in-Ok-clause-stays g c =
     let os = c.self.inside.outboxes.items in
     let at = slice_get_read os (length os) c.args.target c.index_mut.result.now refl (subst (λ (v : OutboxesView). c.args.target < length v.outboxes) (sym c.self.view_is) c.requires.there) c.index_mut.ensures.value in
-    subst (λ (v : OutboxesView). Stays v (record { outboxes = set os c.args.target c.offer.new.self; waiting = c.take.new.self; tried = c.self.inside.tries.tried })) c.self.view_is
-    (handed-stays g.W.Named.world os c.self.inside.waiting c.self.inside.tries.tried c.self.invariant.0 c.args.target c.in-Some.envelope c.in-Some.admitted c.take.new.self (c.in-Some.ensures.first c.self.invariant.0.entries c.self.invariant.0.holds)
+    subst (λ (v : OutboxesView). Stays v (record { outboxes = set os c.args.target c.offer.new.self; waiting = c.take.new.self; tried = c.self.inside.tries.tried; ways = c.self.inside.ways.items })) c.self.view_is
+    (handed-stays g.W.Named.world os c.self.inside.waiting c.self.inside.tries.tried c.self.inside.ways.items c.self.invariant.0 c.args.target c.in-Some.envelope c.in-Some.admitted c.take.new.self (c.in-Some.ensures.first c.self.invariant.0.entries c.self.invariant.0.holds)
     c.index_mut.result.now c.offer.new.self at c.in-Ok.ensures c.take.ensures.added)
 
 pub returns-in-Ok-clause-tried : goal.returns-in-Ok-clause-tried
@@ -104,8 +104,8 @@ pub invariant_of-self-in-Err : goal.invariant_of-self-in-Err
 invariant_of-self-in-Err g c =
     let os = c.self.inside.outboxes.items in
     let takes = c.in-Some.ensures.first c.self.invariant.0.entries c.self.invariant.0.holds in (
-      subst (λ (bs : List OutboxView). IsOutboxes g.W.Named.world (record { outboxes = bs; waiting = c.put_back.new.self; tried = c.add.new.self.tried })) (same-outboxes g c)
-          (full-hold g.W.Named.world os c.self.inside.waiting c.self.inside.tries.tried c.self.invariant.0 c.args.target c.put_back.new.self c.add.new.self.tried (held g c)
+      subst (λ (bs : List OutboxView). IsOutboxes g.W.Named.world (record { outboxes = bs; waiting = c.put_back.new.self; tried = c.add.new.self.tried; ways = c.self.inside.ways.items })) (same-outboxes g c)
+          (full-hold g.W.Named.world os c.self.inside.waiting c.self.inside.tries.tried c.self.inside.ways.items c.self.invariant.0 c.args.target c.put_back.new.self c.add.new.self.tried (held g c)
           (c.put_back.ensures.added ∙ c.take.ensures.added) (λ y. c.put_back.ensures.stopped y ∙ takes.stopped y) (c.put_back.ensures.targets ∙ takes.targets)),
       c.add.ensures.count ∙ c.self.invariant.1 ∙ ap (λ (bs : List OutboxView). length bs) (same-outboxes g c),
     )
@@ -114,8 +114,8 @@ pub returns-in-Err-clause-offers : goal.returns-in-Err-clause-offers
 returns-in-Err-clause-offers g c =
     let os = c.self.inside.outboxes.items in
     let takes = c.in-Some.ensures.first c.self.invariant.0.entries c.self.invariant.0.holds in
-    subst (λ (z : OutboxesView × List OutboxView). Offers z.0 c.args.target Full (record { outboxes = z.1; waiting = c.put_back.new.self; tried = c.add.new.self.tried })) (λ i. (c.self.view_is i, same-outboxes g c i))
-    (full-offers g.W.Named.world os c.self.inside.waiting c.self.inside.tries.tried c.self.invariant.0 c.args.target c.put_back.new.self c.add.new.self.tried (held g c)
+    subst (λ (z : OutboxesView × List OutboxView). Offers z.0 c.args.target Full (record { outboxes = z.1; waiting = c.put_back.new.self; tried = c.add.new.self.tried; ways = c.self.inside.ways.items })) (λ i. (c.self.view_is i, same-outboxes g c i))
+    (full-offers g.W.Named.world os c.self.inside.waiting c.self.inside.tries.tried c.self.inside.ways.items c.self.invariant.0 c.args.target c.put_back.new.self c.add.new.self.tried (held g c)
     (c.put_back.ensures.added ∙ c.take.ensures.added) (λ y. c.put_back.ensures.stopped y ∙ takes.stopped y) (c.put_back.ensures.targets ∙ takes.targets))
 
 pub returns-in-Err-clause-full : goal.returns-in-Err-clause-full
@@ -131,6 +131,6 @@ pub returns-in-Err-clause-stays : goal.returns-in-Err-clause-stays
 returns-in-Err-clause-stays g c =
     let os = c.self.inside.outboxes.items in
     let takes = c.in-Some.ensures.first c.self.invariant.0.entries c.self.invariant.0.holds in
-    subst (λ (z : OutboxesView × List OutboxView). Stays z.0 (record { outboxes = z.1; waiting = c.put_back.new.self; tried = c.add.new.self.tried })) (λ i. (c.self.view_is i, same-outboxes g c i))
-    (full-stays g.W.Named.world os c.self.inside.waiting c.self.inside.tries.tried c.self.invariant.0 c.args.target c.put_back.new.self c.add.new.self.tried (held g c)
+    subst (λ (z : OutboxesView × List OutboxView). Stays z.0 (record { outboxes = z.1; waiting = c.put_back.new.self; tried = c.add.new.self.tried; ways = c.self.inside.ways.items })) (λ i. (c.self.view_is i, same-outboxes g c i))
+    (full-stays g.W.Named.world os c.self.inside.waiting c.self.inside.tries.tried c.self.inside.ways.items c.self.invariant.0 c.args.target c.put_back.new.self c.add.new.self.tried (held g c)
     (c.put_back.ensures.added ∙ c.take.ensures.added) (λ y. c.put_back.ensures.stopped y ∙ takes.stopped y) (c.put_back.ensures.targets ∙ takes.targets))

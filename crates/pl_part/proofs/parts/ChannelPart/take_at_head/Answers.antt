@@ -31,5 +31,5 @@ returns g c =
     let n = next-at-head g.S.Stage.meaning g.S.Stage.stands_after g.T.Transport.state _ _ c.self.view_is c.args.work.now c.args.envelope c.requires.next c.requires.there c.in-Some.head c.in-Some.is in
     let t = c.take.ensures in
     taken-of g.S.Stage.meaning g.S.Stage.stands_after g.T.Transport.state _ _ c.self.view_is _ _ _ g.S.Stage.is_spent c.args.envelope c.take.result
-    (head-taken g.S.Stage.meaning g.S.Stage.stands_after g.T.Transport.state _ c.in-Some.head c.in-Some.is c.take.new.self (ap (λ h. h.channel) t.same, ap (λ h. h.hop) t.same) (n.0, n.1.next.holds) c.args.envelope n.1.there n.1.next.good g.S.Stage.is_spent
+    (head-taken g.S.Stage.meaning g.S.Stage.stands_after g.T.Transport.state _ c.in-Some.head c.in-Some.is c.take.new.self (ap (λ h. h.channel) t.same, ap (λ h. h.hop) t.same, ap (λ h. (h.gone, h.has_forgotten)) t.same) (n.0, n.1.next.holds) c.args.envelope n.1.there n.1.next.good g.S.Stage.is_spent
     c.args.work.now c.take.new.outputs c.take.result n.1.enters n.1.number t)

@@ -10,12 +10,12 @@ pub returns-clause-holds : goal.returns-clause-holds
 returns-clause-holds g c = λ world planned held.
     let t = c.in_ok-path.ensures in
     let size = filled-length c.in_ok-path.path.contexts (length c.args.inbound.items) (length c.args.outbound.items) t.filled in
-    let executors = ap length t.place.1 in
+    let executors = ap length t.path.1 in
     record {
       path = t.holds world planned;
       head = λ x found.
           subst (λ (y : HeadView _). HeadHolds g.T.Transport.state world y × (y.channel ≡ c.in_ok-path.path.channel) × (y.hop ≡ length c.in_ok-path.path.contexts)) (same_Some c.args.head x found)
-          (held, c.requires.last.0 ∙ sym t.place.0, c.requires.last.1 ∙ sym size);
+          (held, c.requires.last.0 ∙ sym t.path.0, c.requires.last.1 ∙ sym size);
       hops = omega (arith, executors, c.requires.hops, size);
     }
 

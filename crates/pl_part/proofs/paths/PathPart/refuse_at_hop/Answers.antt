@@ -26,7 +26,7 @@ returns-in-Some g c =
     let writer = subst (λ (y : PathPartView _). c.args.hop ≡ writer_hop y c.args.lane.hop) (sym c.self.view_is) c.requires.writer in
     let t = c.refuse_at.ensures in
     refused-of g.S.Stage.meaning g.S.Stage.stands_after _ _ c.self.view_is _ _ _ c.args.lane
-    (context-refused g.S.Stage.meaning g.S.Stage.stands_after _ c.self.invariant (some.0, some.2) c.args.hop c.in-Some.context at c.refuse_at.new.context t.meaning t.place t.lanes c.args.lane c.args.work.now c.refuse_at.new.work writer
+    (context-refused g.S.Stage.meaning g.S.Stage.stands_after _ c.self.invariant (some.0, some.2) c.args.hop c.in-Some.context at c.refuse_at.new.context t.meaning t.same_node t.lanes c.args.lane c.args.work.now c.refuse_at.new.work writer
     t.refused t.over t.taken t.holds t.made t.placed t.more)
 
 pub returns-in_default : goal.returns-in_default

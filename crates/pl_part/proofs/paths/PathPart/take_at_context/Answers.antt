@@ -3,7 +3,7 @@ use Rattle.std.proofs.lemmas.List.{length-set}
 use Rattle.pl_event.specs.declared.events.Event.{Event}
 use Rattle.pl_event.specs.Meaning.{Meaning}
 use Rattle.pl_event.specs.Worlds.{World}
-use Rattle.pl_context.specs.declared.standing.Standing.TheVariants as stands
+use Rattle.pl_context.specs.declared.standing.Standing.TheVariants as standings
 use Rattle.pl_flow.specs.Flows.{IsGood}
 use Rattle.pl_part.specs.ContextHolds.{ContextHolds, HoldsWith}
 use Rattle.pl_part.specs.Paths.{IsPathPart}
@@ -56,7 +56,7 @@ returns g c =
     let e = c.args.envelope in
     let t = c.take.ensures in
     let own = (n.1.next.holds.contexts e.lane.hop context n.1.at).0 in
-    let live : context.standing ≡ stands.Open → (xs : List Event) × stands_after context.stage xs = λ standing. (take context.taken own.events, (own.holds.stood standing).stands) in
+    let live : context.standing ≡ standings.Open → (xs : List Event) × stands_after context.stage xs = λ standing. (take context.taken own.events, (own.holds.stood standing).stands) in
     let takes : ContextTakes meaning stands_after is_spent context e before answer now after =
     record { meant = t.meaning; open_item = t.open; ended = t.ended; flags = t.flags; dropped = t.dropped } in
     let held : (world : World) → ContextHolds world meaning stands_after context → IsGood world e → ContextHolds world meaning stands_after now = λ world h good.
@@ -66,7 +66,7 @@ returns g c =
           (stage-taken world meaning stands_after is_spent g.met.S.Stage.lawful h.events context h.holds e n.1.enters n.1.number good before after now answer t.meaning t.open t.ended t.flags t.dropped).0;
     } in
     taken-of meaning stands_after _ _ c.self.view_is _ _ _ is_spent e answer
-    (context-taken meaning stands_after _ c.self.invariant (n.0, n.1.next.holds) e.lane.hop context n.1.at now t.meaning t.place (lanes-stay meaning stands_after is_spent context before after e answer now live takes) is_spent e
+    (context-taken meaning stands_after _ c.self.invariant (n.0, n.1.next.holds) e.lane.hop context n.1.at now t.meaning t.same_node (lanes-stay meaning stands_after is_spent context before after e answer now live takes) is_spent e
     before after answer refl n.1.enters n.1.number takes t.taken held
     (λ world h good. (stage-taken world meaning stands_after is_spent g.met.S.Stage.lawful h.events context h.holds e n.1.enters n.1.number good before after now answer t.meaning t.open t.ended t.flags t.dropped).1)
     (λ lanes within places. item-places meaning stands_after is_spent context lanes within before after places e now answer live t.open t.ended t.flags t.dropped)

@@ -24,9 +24,9 @@ returns g c =
     let t = c.take.ensures in
     taken-of g.S.Stage.meaning g.S.Stage.stands_after _ _ c.self.view_is _ _ _ g.S.Stage.is_spent c.args.envelope c.take.result
     (tail-taken g.S.Stage.meaning g.S.Stage.stands_after _ (n.0, n.1.next.holds) c.in-Some.tail c.in-Some.is c.args.envelope n.1.there g.S.Stage.is_spent c.args.work.now c.take.result c.take.new.self n.1.enters n.1.number
-    (record { open_item = t.open; ended = t.ended; flags = t.flags; dropped = t.dropped })
+    (record { handed = t.handed; open_item = t.open; ended = t.ended; flags = t.flags; dropped = t.dropped })
     (λ world h good. record { events = h.events; holds = end-taken world h.events c.in-Some.tail h.holds c.args.envelope n.1.enters n.1.number good c.take.new.self c.take.result t.open t.ended t.flags t.dropped })
-    t.place t.taken)
+    t.same_node t.taken)
 
 pub unreachable-requires : goal.unreachable-requires
 unreachable-requires g c =

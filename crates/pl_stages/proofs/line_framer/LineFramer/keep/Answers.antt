@@ -3,6 +3,6 @@ use Rattle.std.proofs.lemmas.List.{length-append}
 use Rattle.pl_stages.proofs.line_framer.LineFramer.keep.Goals as goal
 
 pub returns-then-len-bytes-clause-kept : goal.returns-then-len-bytes-clause-kept
-returns-then-len-bytes-clause-kept c = λ part keeps.
+returns-then-len-bytes-clause-kept c = λ segment keeps.
     let same = rw c.if-self.false at keeps in
-    omega (arith, length-append part c.args.bytes.now, ap length same, c.len.ensures)
+    omega (arith, length-append segment c.args.bytes.now, ap length same, c.len.ensures)

@@ -5,7 +5,7 @@ use Rattle.pl_context.specs.Stops.{HasPlaces, StopsView}
 use Rattle.pl_context.specs.WaitingViews.{stops_for}
 use Rattle.pl_flow.specs.Flows.{IsNext}
 use Rattle.pl_flow.specs.LanesViews.{taken_with}
-use Rattle.pl_outbox.specs.OutboxViews.{reached, is_cut, Adds, Comes, RefusedBy}
+use Rattle.pl_outbox.specs.OutboxViews.{way_to, reached, is_cut, Adds, Comes, RefusedBy}
 use Rattle.pl_outbox.proofs.AddSteps.{refused-some}
 use Rattle.pl_outbox.proofs.AdmissionLemmas.{admits_on, admits_front, never-spent}
 use Rattle.pl_words.specs.declared.admission.Refused.{Refused}
@@ -43,17 +43,18 @@ returns-then-target-self-clause-holds g c =
 
 pub add-requires-clause-there : goal.add-requires-clause-there
 add-requires-clause-there g c =
-    subst (λ (k : ℕ). k < length c.args.self.now.outboxes.outboxes) (sym c.target-target.ensures)
+    subst (λ (k : ℕ). way_to c.args.self.now.outboxes k < length c.args.self.now.outboxes.outboxes) (sym c.target-target.ensures)
     (away-there c.next.new.self c.requires.holds.runs c.in-Some.ensures.front c.in-Some.ensures.stopped (λ e. c.if-target-self.false (c.target-target.ensures ∙ e)))
 
 pub add-requires-clause-place : goal.add-requires-clause-place
 add-requires-clause-place g c =
-    subst (λ (k : ℕ). HasPlaces (stops_for c.args.self.now.outboxes.waiting k) (c.in-Some.envelope.lane ∷ [])) (sym c.target-target.ensures)
+    subst (λ (k : ℕ). HasPlaces (stops_for c.args.self.now.outboxes.waiting (way_to c.args.self.now.outboxes k)) (c.in-Some.envelope.lane ∷ [])) (sym c.target-target.ensures)
     (away-placed c.next.new.self c.requires.holds.runs c.in-Some.ensures.front c.in-Some.ensures.stopped (λ e. c.if-target-self.false (c.target-target.ensures ∙ e)))
 
 pub add-requires-clause-next : goal.add-requires-clause-next
 add-requires-clause-next g c =
-    subst (λ (k : ℕ). is_cut c.args.self.now.outboxes k c.in-Some.envelope.lane ≡ false → IsNext g.W.Named.world (reached c.args.self.now.outboxes k c.in-Some.envelope.lane) c.in-Some.envelope) (sym c.target-target.ensures)
+    let o = c.args.self.now.outboxes in
+    subst (λ (k : ℕ). is_cut o (way_to o k) c.in-Some.envelope.lane ≡ false → IsNext g.W.Named.world (reached o (way_to o k) c.in-Some.envelope.lane) c.in-Some.envelope) (sym c.target-target.ensures)
     (away-next c.next.new.self c.requires.holds.runs c.in-Some.ensures.front c.in-Some.ensures.stopped (λ e. c.if-target-self.false (c.target-target.ensures ∙ e)))
 
 -- it is closed
@@ -67,13 +68,13 @@ returns-in-Err-Closed-clause-holds g c =
     let refuse = c.refuse.ensures in
     let front = c.in-Some.ensures.front in
     let stopped = c.in-Some.ensures.stopped in
-    let adds = subst (λ (k : ℕ). Adds o k c.in-Some.envelope c.add.new.self) c.target-target.ensures c.add.ensures.adds in
+    let adds = subst (λ (k : ℕ). Adds o (way_to o k) c.in-Some.envelope c.add.new.self) c.target-target.ensures c.add.ensures.adds in
     let nodes = c.args.self.now.nodes in
     let v = (g.N.OwnNodes.view_of nodes).lanes in
     holds-on nodes c.next.new.self v.taken holds.at (subst (λ (s : StopsView). HasPlaces s v.places) (sym stopped) holds.places)
     (away-added c.next.new.self holds.runs front stopped c.add.new.self (λ e. c.if-target-self.false (c.target-target.ensures ∙ e)) adds) (admits_front c.add.new.self c.next.new.self holds.admits front stopped adds.made)
     refuse.stands refuse.keeps refuse.taken refuse.placed refuse.makes
-    (λ e. refused-some o c.add.new.self c.target-target.result (subst (λ (r : Refused). RefusedBy o c.target-target.result r c.add.new.self) c.in-Err-Closed.field-0-is c.in-Err-Closed.ensures.refused))
+    (λ e. refused-some o c.add.new.self (way_to o c.target-target.result) (subst (λ (r : Refused). RefusedBy o (way_to o c.target-target.result) r c.add.new.self) c.in-Err-Closed.field-0-is c.in-Err-Closed.ensures.refused))
 
 -- it waits there
 pub returns-in-Ok-clause-holds : goal.returns-in-Ok-clause-holds
@@ -81,7 +82,7 @@ returns-in-Ok-clause-holds g c =
     let holds = c.requires.holds in
     let front = c.in-Some.ensures.front in
     let stopped = c.in-Some.ensures.stopped in
-    let adds = subst (λ (k : ℕ). Adds c.args.self.now.outboxes k c.in-Some.envelope c.add.new.self) c.target-target.ensures c.add.ensures.adds in record {
+    let adds = subst (λ (k : ℕ). Adds c.args.self.now.outboxes (way_to c.args.self.now.outboxes k) c.in-Some.envelope c.add.new.self) c.target-target.ensures c.add.ensures.adds in record {
       stood = holds.stood;
       at = holds.at;
       places = subst (λ (s : StopsView). HasPlaces s (g.N.OwnNodes.view_of c.args.self.now.nodes).lanes.places) (sym stopped) holds.places;
@@ -114,8 +115,8 @@ returns-in-Err-Closed-clause-front g c = λ _.
         is_front = record { items = c.in-Some.ensures.front; stopped = c.in-Some.ensures.stopped; room = c.in-Some.ensures.room };
         here = λ e. absurd (c.if-target-self.false (c.target-target.ensures ∙ e));
         away = λ _. inr (
-          subst (λ (k : ℕ). RefusedBy o k Closed c.add.new.self) c.target-target.ensures
-              (subst (λ (r : Refused). RefusedBy o c.target-target.result r c.add.new.self) c.in-Err-Closed.field-0-is c.in-Err-Closed.ensures.refused),
+          subst (λ (k : ℕ). RefusedBy o (way_to o k) Closed c.add.new.self) c.target-target.ensures
+              (subst (λ (r : Refused). RefusedBy o (way_to o c.target-target.result) r c.add.new.self) c.in-Err-Closed.field-0-is c.in-Err-Closed.ensures.refused),
           c.refuse.ensures.gave_up,
           c.refuse.ensures.refuses,
         );
@@ -130,14 +131,14 @@ returns-in-Ok-clause-front g c = λ _. (
     rest = c.next.new.self;
     is_front = record { items = c.in-Some.ensures.front; stopped = c.in-Some.ensures.stopped; room = c.in-Some.ensures.room };
     here = λ e. absurd (c.if-target-self.false (c.target-target.ensures ∙ e));
-    away = λ _. inl (subst (λ (k : ℕ). Comes c.args.self.now.outboxes k c.in-Some.envelope c.add.new.self) c.target-target.ensures c.in-Ok.ensures.comes, refl, refl);
+    away = λ _. inl (subst (λ (k : ℕ). Comes c.args.self.now.outboxes (way_to c.args.self.now.outboxes k) c.in-Some.envelope c.add.new.self) c.target-target.ensures c.in-Ok.ensures.comes, refl, refl);
   },
 )
 
 -- ---- its seat is not spent
 
 pub unreachable-requires : goal.unreachable-requires
-unreachable-requires g c = never-spent c.requires.holds.admits (subst (λ (r : Refused). RefusedBy c.args.self.now.outboxes c.target-target.result r c.add.new.self) c.in-Err-SeatSpent.field-0-is c.in-Err-SeatSpent.ensures.refused)
+unreachable-requires g c = never-spent c.requires.holds.admits (subst (λ (r : Refused). RefusedBy c.args.self.now.outboxes (way_to c.args.self.now.outboxes c.target-target.result) r c.add.new.self) c.in-Err-SeatSpent.field-0-is c.in-Err-SeatSpent.ensures.refused)
 
 pub returns-in_default-clause-holds : goal.returns-in_default-clause-holds
 returns-in_default-clause-holds g c = record {
