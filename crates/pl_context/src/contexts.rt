@@ -151,6 +151,14 @@ impl<S: Stage> Context<S> {
         self.standing.is_over()
     }
 
+    /// Gives the context up for its stage.
+    pub fn into_stage(self) -> S
+        ensures { result ≡ self.stage }
+    {
+        let Context { stage, .. } = self;
+        stage
+    }
+
     /// The data lane that enters it. The flags lane of the same hop enters it too.
     pub fn lane(&self) -> Lane
         ensures { result ≡ record { channel = self.now.channel; kind = kind.Data; hop = self.now.hop } }

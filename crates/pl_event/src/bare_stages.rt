@@ -80,6 +80,13 @@ impl<S: BareStage> Fused<S> {
             is_spent: false,
         }
     }
+
+    /// Gives the stage back. It stands after what this one stands after.
+    pub fn into_stage(self) -> S
+        ensures { (xs : List Event) → ⟦<Fused<S> as Stage>⟧.stands_after self xs → S.stands_after result xs }
+    {
+        self.stage
+    }
 }
 
 impl<S: BareStage> Stage for Fused<S> {

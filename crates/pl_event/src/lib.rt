@@ -1,5 +1,5 @@
 //! What flows through a pipeline, and what a handler is: events and their messages, how writes end, and the law of a
-//! stage. It stands on nothing but std.
+//! stage. It stands on no other library of this repository.
 //!
 //! A handler takes events one by one, and adds what it makes of each to two lists: `up`, for the next inbound handler or
 //! the tail, and `down`, for the next outbound handler or the head.

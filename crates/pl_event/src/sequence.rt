@@ -1,8 +1,8 @@
 //! Elements that contracts see as a list.
 
-ghost use Rattle.std.specs.Prelude.{◌≡◌, ◌==◌, ◌++◌, ◌∷◌, [], length, OnOk, IfErr, if◌then◌else◌, is_ok};
+ghost use Rattle.std.specs.Prelude.{◌≡◌, ◌==◌, ◌++◌, ◌∷◌, [], length, OnOk, IfOk, IfErr, if◌then◌else◌, is_ok};
 
-use std::alloc::{AllocFailed, Global};
+use std::alloc::{AllocError, AllocFailed, Global};
 use std::marker::Model;
 
 /// Elements, in order. Contracts see them as a list.
@@ -71,5 +71,16 @@ impl<T> Sequence<T> {
         ensures { result ≡ (length self.now == 0) }
     {
         self.elements.is_empty()
+    }
+}
+
+impl<T: Copy> Sequence<T> {
+    /// A copy of some elements. An `Err` is out of memory.
+    pub fn from_slice(alloc: Global, elements: &[T]) -> Result<Self, AllocError>
+        ensures { IfOk result (λ copy. copy ≡ elements.now) }
+    {
+        Ok(Sequence {
+            elements: Vec::from_slice(alloc, elements)?,
+        })
     }
 }

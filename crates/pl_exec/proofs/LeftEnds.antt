@@ -40,11 +40,11 @@ pub record IsEnd {A : Type 0} (Right : A → Type 0) (executor first : ℕ) (o :
   pub right : (x : A) → o ≡ Some x → Right x
   pub there : executor < first → is_some o ≡ true
 
-end-none : {A : Type 0} (Right : A → Type 0) (executor : ℕ) → IsEnd Right executor 0 None
+pub end-none : {A : Type 0} (Right : A → Type 0) (executor : ℕ) → IsEnd Right executor 0 None
 end-none Right executor = record { right = λ x is. absurd (none-some x is); there = λ lt. absurd (omega (arith, lt)) }
 
 -- the next executor has it, or not
-end-next : {A : Type 0} (Right : A → Type 0) (executor first : ℕ) (own o : Option A) → ((x : A) → own ≡ Some x → Right x) → is_some own ≡ (executor == first) → IsEnd Right executor first o
+pub end-next : {A : Type 0} (Right : A → Type 0) (executor first : ℕ) (own o : Option A) → ((x : A) → own ≡ Some x → Right x) → is_some own ≡ (executor == first) → IsEnd Right executor first o
     → IsEnd Right executor (first + 1) (option_or own o)
 end-next Right executor first (Some x) o right here e = record { right = right; there = λ lt. refl }
 end-next Right executor first None o right here e = record {
@@ -56,7 +56,7 @@ end-next Right executor first None o right here e = record {
 }
 
 -- every executor was looked through
-end-all : {A : Type 0} (Right : A → Type 0) (executor count : ℕ) (o : Option A) → IsEnd Right executor count o → executor < count → (x : A) × (o ≡ Some x) × Right x
+pub end-all : {A : Type 0} (Right : A → Type 0) (executor count : ℕ) (o : Option A) → IsEnd Right executor count o → executor < count → (x : A) × (o ≡ Some x) × Right x
 end-all Right executor count (Some x) e lt = (x, refl, e.right x refl)
 end-all Right executor count None e lt = absurd (false≢true (e.there lt))
 
@@ -65,6 +65,10 @@ end-all Right executor count None e lt = absurd (false≢true (e.there lt))
 -- the executor of a hop
 abbrev pub executor_of : ChannelPlan → ℕ → ℕ
 executor_of p hop = get_or p.executors hop 0
+
+-- each hop has one
+pub placed : (executors : ℕ) (p : ChannelPlan) → IsChannelPlan executors p → (hop : ℕ) → hop ≤ planned_head_hop p → executor_of p hop < executors
+placed executors p is hop within = All-get_or (λ (x : ℕ). x < executors) p.executors hop 0 (let hops = is.hops in omega (arith, hops, within)) is.placed
 
 module _ {T : Type 0} (state : T → TransportState) (plan : Plan) where
   -- The ends of a channel, as far as they are among the nodes of the first executors.
@@ -89,10 +93,6 @@ module _ {T : Type 0} (state : T → TransportState) (plan : Plan) where
         (record { tail = end-none (IsLeftTail plan c p) (executor_of p (tail_hop p)); head = end-none (IsLeftHead state plan c p) (executor_of p (planned_head_hop p)) });
   }
 
-  -- each hop has an executor
-  placed : (p : ChannelPlan) → IsChannelPlan plan.executors p → (hop : ℕ) → hop ≤ planned_head_hop p → executor_of p hop < plan.executors
-  placed p is hop within = All-get_or (λ (x : ℕ). x < plan.executors) p.executors hop 0 (let hops = is.hops in omega (arith, hops, within)) is.placed
-
   -- behind the last
   pub all-left : (fs : List (Found T)) → IsPlan plan → AreFound plan.executors fs → AreLeft state plan fs
   all-left fs is are = record {
@@ -100,8 +100,8 @@ module _ {T : Type 0} (state : T → TransportState) (plan : Plan) where
     each = λ c p f planned found.
         let each = are.each c p f planned found in
         let own = All-at (IsChannelPlan plan.executors) plan.channels c p is.channels planned in
-        let tail = end-all (IsLeftTail plan c p) (executor_of p (tail_hop p)) plan.executors f.tail each.tail (placed p own (tail_hop p) (omega arith)) in
-        let head = end-all (IsLeftHead state plan c p) (executor_of p (planned_head_hop p)) plan.executors f.head each.head (placed p own (planned_head_hop p) (omega arith)) in
+        let tail = end-all (IsLeftTail plan c p) (executor_of p (tail_hop p)) plan.executors f.tail each.tail (placed plan.executors p own (tail_hop p) (omega arith)) in
+        let head = end-all (IsLeftHead state plan c p) (executor_of p (planned_head_hop p)) plan.executors f.head each.head (placed plan.executors p own (planned_head_hop p) (omega arith)) in
         record { tail = tail.0; has_tail = tail.1; left_tail = tail.2; head = head.0; has_head = head.1; left_head = head.2 };
   }
 

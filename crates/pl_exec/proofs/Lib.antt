@@ -4,6 +4,7 @@ pub mod ByChannel
 pub mod PartsHere
 pub mod Ways
 pub mod Columns
+pub mod WaysDealt
 pub mod LaneLemmas
 pub mod StartLemmas
 pub mod ExecutorNodeLemmas
@@ -19,15 +20,19 @@ pub mod SharesStand
 pub mod Fits
 pub mod FitsStart
 pub mod LeftEnds
+pub mod FilledSlots
+pub mod LeftStages
 mod RunEnds
 pub mod RunReports
 mod LaneTablesSums
 mod LaneTablesEvery
 mod LaneTablesSteps
 mod LaneTablesGrown
+mod WaysMade
 pub mod LaneTables
 pub mod WordLemmas
 pub mod SeatLemmas
 pub mod SettledWrites
 pub mod ToldNodes
 pub mod ServedNodes
+pub mod PartTold

@@ -1,13 +1,13 @@
 -- What is left of a list, and its front.
-use Rattle.std.proofs.Common.{◌≡◌, ℕ, zero, suc, ◌+◌, ◌<◌, List, [], ◌∷◌, ◌++◌, drop, length, slice_get, Some, ⊎_elim, ap, sym, subst, ◌∙◌, arith, add-one, append-nil, length-append, length-drop}
+use Rattle.std.proofs.Common.{◌≡◌, ℕ, zero, suc, ◌+◌, ◌<◌, List, [], ◌∷◌, ◌++◌, drop, length, slice_get, Some, ⊎_elim, ap, sym, subst, ◌∙◌, arith, add-one, append_assoc, append-nil, length-append, length-drop}
 use Rattle.std.proofs.lemmas.List.{nil_from_length}
 use Rattle.std.proofs.lemmas.Option.{slice_get_within}
 use Rattle.pl_event.proofs.Lists.{slice_get-push, tail-is, slice_get-behind}
 
-cons-head : {A : Type 0} (x y : A) (xs ys : List A) → x ∷ xs ≡ y ∷ ys → Some x ≡ Some y
+pub cons-head : {A : Type 0} (x y : A) (xs ys : List A) → x ∷ xs ≡ y ∷ ys → Some x ≡ Some y
 cons-head x y xs ys e = cc
 
-nil-cons : {A : Type 0} (x : A) (xs : List A) → [] ≡ x ∷ xs → ⊥
+pub nil-cons : {A : Type 0} (x : A) (xs : List A) → [] ≡ x ∷ xs → ⊥
 nil-cons x xs e = cc
 
 pub left-front : {A : Type 0} (xs rest : List A) (n : ℕ) (x : A) → drop n xs ≡ x ∷ rest → slice_get xs n ≡ Some x
@@ -32,6 +32,10 @@ at-next {A = A} all done left rest x n whole front place =
 -- so there are more than that
 pub next-within : {A : Type 0} (all done left rest : List A) (x : A) (n : ℕ) → done ++ left ≡ all → left ≡ x ∷ rest → n ≡ length done → n < length all
 next-within all done left rest x n whole front place = slice_get_within all n x (at-next all done left rest x n whole front place)
+
+-- with the next done, what is behind it is left
+pub one-more : {A : Type 0} (all done left rest : List A) (x : A) → left ≡ x ∷ rest → done ++ left ≡ all → (done ++ x ∷ []) ++ rest ≡ all
+one-more {A = A} all done left rest x front whole = append_assoc done (x ∷ []) rest ∙ ap (λ (l : List A). done ++ l) (sym front) ∙ whole
 
 pub all-done : {A : Type 0} (all done left : List A) → left ≡ [] → done ++ left ≡ all → done ≡ all
 all-done {A = A} all done left none whole = sym (append-nil done) ∙ ap (λ (l : List A). done ++ l) (sym none) ∙ whole

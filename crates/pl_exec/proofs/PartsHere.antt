@@ -69,7 +69,7 @@ and-none false b none = refl
 -- ---- the part of a channel that has no node here
 
 module _ {S T : Type 0} (c : ℕ) (q : ChannelPlan) (p : ChannelPartView S T) (is : p ≡ part_elsewhere c q) where
-  no-context : (hop : ℕ) → context_at p.path hop ≡ None
+  pub no-context : (hop : ℕ) → context_at p.path hop ≡ None
   no-context hop = ap (λ (x : ChannelPartView S T). context_at x.path hop) is ∙ replicated (planned_head_hop q) hop None
 
   pub no-tail : p.path.tail ≡ None

@@ -5,7 +5,7 @@ use Rattle.std.proofs.lemmas.Bool.{cases_eq, false≢true}
 use Rattle.std.proofs.lemmas.Option.{none-some, same_Some, slice_get-map, slice_get_within, get_or_from_slice_get}
 use Rattle.pl_event.specs.declared.envelopes.Lane.{Lane}
 use Rattle.pl_event.specs.Worlds.{World}
-use Rattle.pl_event.proofs.Lists.{All-at, at-index}
+use Rattle.pl_event.proofs.Lists.{All-at, All-from-at, at-index}
 use Rattle.pl_context.specs.Backlogs.{BacklogView}
 use Rattle.pl_context.specs.declared.waiting.Stamp.{Stamp}
 use Rattle.pl_context.specs.OutputsViews.{OutputsView}
@@ -23,8 +23,7 @@ use Rattle.pl_outbox.specs.OutboxViews.{OutboxView, OutboxesView, waits_for, sen
 use Rattle.pl_threads.specs.NodesViews.{OwnNodesView}
 use Rattle.pl_threads.specs.Running.{RunsOn, IsTaking}
 use Rattle.pl_threads.proofs.RunLemmas.{runs-start}
-use Rattle.pl_exec.specs.Opening.{lanes_to, table_lanes, is_way, InboxView, OwnView, ColumnView, PlacesView, AreColumns, HasWays, columns_after, Starts, CanStart}
-use Rattle.pl_exec.proofs.Columns.{columns-after, next-column, outbox-fresh}
+use Rattle.pl_exec.specs.Opening.{lanes_to, table_lanes, is_way, InboxView, OwnView, ColumnView, PlacesView, WaysView, HasWays, CanDealAll, Starts, CanStart}
 use Rattle.pl_exec.proofs.LaneLemmas.{sent_at-fresh, next_of-new}
 use Rattle.pl_exec.proofs.Ways.{own-way, lanes-way}
 
@@ -32,8 +31,8 @@ found-or : {A B : Type 0} (f : A → B) (found : Option A) (d b : B) → option_
 found-or f None d b is = absurd (none-some b is)
 found-or f (Some a) d b is = same_Some (f a) b is
 
-module _ {M S T N : Type 0} (ends : MailboxEnds M S T) (view_of : N → OwnNodesView) (stands : N → Type 0) (inboxes : List (InboxView M)) (me : ℕ) (own : OwnView T) (columns : List (ColumnView S)) (nodes : N) (places : PlacesView)
-    (s : Starts ends view_of stands inboxes me own columns nodes places) (here : me < length inboxes) where
+module _ {M S T N : Type 0} (ends : MailboxEnds M S T) (view_of : N → OwnNodesView) (stands : N → Type 0) (inboxes : List (InboxView M)) (me : ℕ) (own : OwnView T) (its_ways : WaysView) (nodes : N) (places : PlacesView)
+    (s : Starts ends view_of stands inboxes me own its_ways nodes places) (here : me < length inboxes) where
   -- the taker has taken nothing, and what it is to take is for these nodes
   pub starts-taking : IsTaking me (view_of nodes).lanes (ends.takes_of own.taker).counts
   starts-taking l n next =
@@ -43,8 +42,10 @@ module _ {M S T N : Type 0} (ends : MailboxEnds M S T) (view_of : N → OwnNodes
       let enters = s.fits.entering l new.0 in
       (enters.0, enters.1, enters.2 ∙ new.1)
 
-  module _ (numbers : List ℕ) (made : List OutboxView) (counts : List ℕ) (has : HasWays ends me columns places.targets (length inboxes) numbers made counts) (world : World) (o : OutboxesView) (outboxes : o.outboxes ≡ made) (ways : o.ways ≡ numbers)
-      (waits : (y : ℕ) → waits_for o y ≡ []) (reserved : map (λ b. b.stopped) o.waiting.targets ≡ map no_stops counts) where
+  module _ (world : World) (o : OutboxesView) (outboxes : o.outboxes ≡ its_ways.outboxes) (ways : o.ways ≡ its_ways.numbers) (waits : (y : ℕ) → waits_for o y ≡ []) (reserved : map (λ b. b.stopped) o.waiting.targets ≡ map no_stops its_ways.places) where
+    abbrev has : HasWays s.lanes me places.targets (length s.lanes) its_ways
+    has = s.ways
+
     count : length o.outboxes ≡ length has.targets
     count = ap (λ (l : List OutboxView). length l) outboxes ∙ sym has.outboxes_count
 
@@ -56,12 +57,8 @@ module _ {M S T N : Type 0} (ends : MailboxEnds M S T) (view_of : N → OwnNodes
     way-for : (l : Lane) → (view_of nodes).lanes.written l ≡ true → (slice_get has.targets (way_to o ((view_of nodes).lanes.target l)) ≡ Some ((view_of nodes).lanes.target l))
     way-for l written =
         let y = (view_of nodes).lanes.target l in
-        let there = s.fits.there l written in
-        let inbox = at-index inboxes y (omega (arith, there, s.count)) in
-        let c = at-index columns y (omega (arith, there, s.count, s.left.count)) in
-        let next = next-column ends s.lanes s.square me inboxes columns s.left s.count here y inbox.0 c.0 inbox.1 c.1 (is-way y l written refl) in
-        let way = has.ways y c.0 (omega (arith, there, s.count)) c.1 next in
-        ap (λ (k : ℕ). slice_get has.targets k) (ap (λ (ws : List ℕ). get_or ws y (2 ^ 16 - 1)) ways ∙ get_or_from_slice_get numbers y way.0 (2 ^ 16 - 1) way.1) ∙ way.2
+        let way = has.ways y (s.fits.there l written) (is-way y l written refl) in
+        ap (λ (k : ℕ). slice_get has.targets k) (ap (λ (ws : List ℕ). get_or ws y (2 ^ 16 - 1)) ways ∙ get_or_from_slice_get its_ways.numbers y way.0 (2 ^ 16 - 1) way.1) ∙ way.2
       where
         has-some : (l : Lane) (lanes : List Lane) → has_lane l lanes ≡ true → 0 < length lanes
         has-some l [] h = absurd (false≢true h)
@@ -84,10 +81,10 @@ module _ {M S T N : Type 0} (ends : MailboxEnds M S T) (view_of : N → OwnNodes
         let x = (view_of nodes).lanes.target l in
         let way = way_to o x in
         let there = way-there l written in
-        let b = at-index made way (let same = ap (λ (l : List OutboxView). length l) outboxes in omega (arith, there, same)) in
+        let b = at-index its_ways.outboxes way (let same = ap (λ (l : List OutboxView). length l) outboxes in omega (arith, there, same)) in
         ap (λ (bs : List OutboxView). option_map_or (λ (b : OutboxView). sent_at b.sends.send_counts l) (slice_get bs way) nowhere) outboxes
         ∙ ap (λ (b : Option OutboxView). option_map_or (λ (b : OutboxView). sent_at b.sends.send_counts l) b nowhere) b.1
-        ∙ ap (λ (v : SenderView). sent_at v.send_counts l) (outbox-fresh ends s.lanes s.square me inboxes columns s.left s.count here places.targets numbers made counts has way x b.0 (way-for l written) b.1).sends
+        ∙ ap (λ (v : SenderView). sent_at v.send_counts l) (has.each way x b.0 (way-for l written) b.1).sends
         ∙ sent_at-fresh (table_lanes s.lanes me x) l (s.fits.away l written away)
 
     reached-first : (l : Lane) → (view_of nodes).lanes.target l ≢ me → (view_of nodes).lanes.written l ≡ true → reached o (way_to o ((view_of nodes).lanes.target l)) l ≡ point 0 false
@@ -96,10 +93,10 @@ module _ {M S T N : Type 0} (ends : MailboxEnds M S T) (view_of : N → OwnNodes
     placed-first : (way : ℕ) → way < length o.outboxes → HasPlaces (stops_for o.waiting way) (hops way)
     placed-first way within =
         let target = at-index has.targets way (omega (arith, within, count)) in
-        let place = at-index counts way (let n = has.places_count in omega (arith, within, count, n)) in
+        let place = at-index its_ways.places way (let n = has.places_count in omega (arith, within, count, n)) in
         let stopped = λ (b : BacklogView (Stamp AdmittedView)). b.stopped in
         let is : option_map stopped (slice_get o.waiting.targets way) ≡ Some (no_stops place.0) =
-        sym (slice_get-map stopped o.waiting.targets way) ∙ ap (λ (l : List StopsView). slice_get l way) reserved ∙ slice_get-map no_stops counts way ∙ ap (option_map no_stops) place.1 in
+        sym (slice_get-map stopped o.waiting.targets way) ∙ ap (λ (l : List StopsView). slice_get l way) reserved ∙ slice_get-map no_stops its_ways.places way ∙ ap (option_map no_stops) place.1 in
         subst (λ (z : StopsView × ℕ). HasPlaces z.0 (s.fits.hops z.1))
         (λ i. (sym (found-or stopped (slice_get o.waiting.targets way) (no_stops 0) (no_stops place.0) is) i, sym (get_or_from_slice_get has.targets way target.0 0 target.1) i))
         (s.fits.placed target.0 place.0 (has.placed way target.0 place.0 target.1 place.1))
@@ -118,17 +115,32 @@ module _ {M S T N : Type 0} (ends : MailboxEnds M S T) (view_of : N → OwnNodes
         (λ l written away. way-there l written)
         hops placed-first among-first
 
--- each of the executors that can start does, once those before it have taken theirs from the columns
-pub each-starts : {M S T N : Type 0} (ends : MailboxEnds M S T) (view_of : N → OwnNodesView) (stands : N → Type 0) (inboxes : List (InboxView M)) (all : List (OwnView T)) (columns rest : List (ColumnView S)) (nodes : List N) (places : List PlacesView)
-    → CanStart ends view_of stands inboxes all columns nodes places
-    → (number : ℕ) (own : OwnView T) (part : N) (reserved : PlacesView) → slice_get all number ≡ Some own → slice_get nodes number ≡ Some part → slice_get places number ≡ Some reserved → rest ≡ columns_after number columns
-    → Starts ends view_of stands inboxes number own rest part reserved
-each-starts ends view_of stands inboxes all columns rest nodes places can number own part reserved at-own at-nodes at-places are = record {
-  lanes = can.lanes;
-  square = can.square;
-  count = can.count;
-  own = λ inbox there. can.opened.own number inbox own there at-own;
-  left = subst (λ (cs : List (ColumnView _)). AreColumns ends can.lanes number inboxes cs) (sym are) (columns-after ends can.lanes number inboxes columns can.square can.count (let within = slice_get_within nodes number part at-nodes in let n = can.fit.nodes_count in omega (arith, within, n)) can.opened.whole);
-  stood = All-at stands nodes number part can.fit.stand at-nodes;
-  fits = can.fit.each number part reserved at-nodes at-places;
-}
+module _ {M S T N : Type 0} (ends : MailboxEnds M S T) (view_of : N → OwnNodesView) (stands : N → Type 0) (inboxes : List (InboxView M)) (all : List (OwnView T)) (columns : List (ColumnView S)) (nodes : List N) (places : List PlacesView)
+    (can : CanStart ends view_of stands inboxes all columns nodes places) where
+  -- the columns can be given to them
+  pub start-deals : CanDealAll ends can.lanes inboxes columns places
+  start-deals = record {
+    placed = record {
+      square = can.square;
+      count = can.fit.places_count;
+      targets = All-from-at (λ (p : PlacesView). length p.targets ≡ length can.lanes) places (λ n p at.
+          let within = slice_get_within places n p at in
+          let part = at-index nodes n (let some = can.fit.nodes_count in let size = can.fit.places_count in omega (arith, within, some, size)) in
+          (can.fit.each n part.0 p part.1 at).targets);
+    };
+    inboxes_count = can.count;
+    whole = can.opened.whole;
+  }
+
+  -- each that can start does, by its ways
+  pub each-starts : (number : ℕ) (own : OwnView T) (part : N) (reserved : PlacesView) (v : WaysView) → slice_get all number ≡ Some own → slice_get nodes number ≡ Some part → slice_get places number ≡ Some reserved
+      → HasWays can.lanes number reserved.targets (length can.lanes) v → Starts ends view_of stands inboxes number own v part reserved
+  each-starts number own part reserved v at-own at-nodes at-places has = record {
+    lanes = can.lanes;
+    square = can.square;
+    count = can.count;
+    own = λ inbox there. can.opened.own number inbox own there at-own;
+    ways = has;
+    stood = All-at stands nodes number part can.fit.stand at-nodes;
+    fits = can.fit.each number part reserved at-nodes at-places;
+  }

@@ -1,33 +1,19 @@
--- The ways to a target, and what executors take of its column by them.
-use Rattle.std.proofs.Common.{◌≡◌, ℕ, zero, suc, ◌+◌, ◌<◌, ◌≤◌, ◌==◌, ◌||◌, ◌++◌, Bool, true, false, not, cond, List, [], ◌∷◌, drop, length, map, get_or, slice_get, None, Some, refl, ap, sym, ◌∙◌, subst, ⊎_elim, arith, append-nil, append_assoc}
+-- The ways to a target, and whose is the next of them.
+use Rattle.std.proofs.Common.{◌≡◌, ℕ, zero, suc, ◌+◌, ◌<◌, ◌≤◌, ◌==◌, ◌||◌, ◌++◌, Bool, true, false, not, List, [], ◌∷◌, drop, length, map, get_or, None, Some, refl, ap, sym, ◌∙◌, subst, ⊎_elim, arith}
 use Rattle.std.specs.Prelude.{nat_le, if◌then◌else◌}
-use Rattle.std.specs.Option.{option_map_or}
-use Rattle.std.proofs.lemmas.Bool.{and_from, and_parts, cases_Bool, cond-false, cond-true, eqb-false, eq-eqb, false≢true, le-leb, leb-true, ne_eqb, not_from_false, or_left, or_parts}
-use Rattle.std.proofs.lemmas.Option.{none-some}
-use Rattle.std.proofs.lemmas.List.{drop-map, drop_more, length-drop, length-map}
-use Rattle.std.proofs.lemmas.List.Elements.{All-drop}
+use Rattle.std.proofs.lemmas.Bool.{and_from, and_parts, cases_Bool, cases_eq, cond-false, cond-true, eqb-false, eq-eqb, false≢true, le-leb, leb-true, ne_eqb, not_from_false, or_left, or_parts}
+use Rattle.std.proofs.lemmas.Option.{none-some, same_Some}
+use Rattle.std.proofs.lemmas.List.{drop_all, drop_more, length-map}
 use Rattle.pl_event.specs.declared.envelopes.Lane.{Lane}
-use Rattle.pl_queue.specs.declared.views.SenderView.{SenderView}
-use Rattle.pl_queue.specs.Ends.{MailboxEnds}
+use Rattle.pl_event.proofs.Lists.{tail-is}
 use Rattle.pl_queue.specs.declared.limits.TheConstants.{MAX_LANES, MAX_SENDERS}
 use Rattle.pl_queue.specs.declared.mailbox.OpenRefusal.TheVariants.{Limit}
 use Rattle.pl_queue.specs.Left.{Apart, lanes_of_senders}
 use Rattle.pl_queue.specs.Limits.{is_mailbox_within, opening_fault}
-use Rattle.pl_queue.specs.Rule.{Each}
-use Rattle.pl_queue.specs.Views.{fresh_sends}
-use Rattle.pl_words.specs.Admissions.{new_send_seat}
-use Rattle.pl_exec.specs.Opening.{InboxView, ColumnView, Way, way_by, is_way, ways_from, ways_to, is_next, column_rest, column_after, CanOpen, IsColumn}
+use Rattle.pl_exec.specs.Opening.{Way, way_by, is_way, ways_from, ways_to, CanOpen}
+use Rattle.pl_exec.proofs.ListSteps.{cons-head, nil-cons}
 
 -- ---- the ways
-
--- one executor more
-pub ways-step : {A : Type 0} (f : Way → A) (xs : List A) (target n : ℕ) (lanes : List Lane) (more : List (List Lane))
-    → xs ++ map f (ways_from target n (lanes ∷ more)) ≡ (xs ++ cond (is_way target n lanes) (f (way_by n lanes) ∷ []) []) ++ map f (ways_from target (n + 1) more)
-ways-step {A = A} f xs target n lanes more = by (ways_from target (n + 1) more) (is_way target n lanes)
-  where
-    by : (rest : List Way) (b : Bool) → xs ++ map f (cond b (way_by n lanes ∷ rest) rest) ≡ (xs ++ cond b (f (way_by n lanes) ∷ []) []) ++ map f rest
-    by rest true = sym (append_assoc xs (f (way_by n lanes) ∷ []) (map f rest))
-    by rest false = ap (λ (l : List A). l ++ map f rest) (sym (append-nil xs))
 
 module _ (target n : ℕ) (lanes : List Lane) (more : List (List Lane)) where
   -- where it has a way, and where not
@@ -37,7 +23,7 @@ module _ (target n : ℕ) (lanes : List Lane) (more : List (List Lane)) where
   without-way : is_way target n lanes ≡ false → ways_from target n (lanes ∷ more) ≡ ways_from target (n + 1) more
   without-way e = cond-false (is_way target n lanes) (way_by n lanes ∷ ways_from target (n + 1) more) (ways_from target (n + 1) more) e
 
-no-lanes : (lanes : List Lane) → not (length lanes == 0) ≡ false → lanes ≡ []
+pub no-lanes : (lanes : List Lane) → not (length lanes == 0) ≡ false → lanes ≡ []
 no-lanes [] e = refl
 no-lanes (l ∷ ls) e = absurd (false≢true (sym e ∙ not_from_false (length (l ∷ ls) == 0) (ne_eqb (length (l ∷ ls)) 0 (λ z. omega (arith, z)))))
 
@@ -90,30 +76,7 @@ lanes-way target number lanes some = by (number == target) (not (length lanes ==
     by true b e = refl
     by false b e = e
 
--- ---- whose are the next
-
--- the first of these numbers is this one
-abbrev pub is_first : ℕ → List ℕ → Bool
-is_first n numbers = option_map_or (λ next. next == n) (slice_get numbers 0) false
-
--- executors that come later are others
-ways-later : (target n m : ℕ) (senders : List (List Lane)) → m < n → is_first m (map (λ (w : Way). w.sender) (ways_from target n senders)) ≡ false
-ways-later target n m [] lt = refl
-ways-later target n m (lanes ∷ more) lt = ⊎_elim
-    (λ (e : is_way target n lanes ≡ true).
-    ap (λ (ws : List Way). is_first m (map (λ (w : Way). w.sender) ws)) (with-way target n lanes more e) ∙ ne_eqb n m (λ z. omega (arith, lt, z)))
-    (λ (e : is_way target n lanes ≡ false).
-    ap (λ (ws : List Way). is_first m (map (λ (w : Way). w.sender) ws)) (without-way target n lanes more e) ∙ ways-later target (n + 1) m more (omega (arith, lt)))
-    (cases_Bool (is_way target n lanes))
-
-pub some-first : (n : ℕ) (numbers : List ℕ) → is_first n numbers ≡ true → 0 < length numbers
-some-first n [] e = absurd (false≢true e)
-some-first n (x ∷ xs) e = omega arith
-
-each-drop : {A : Type 0} (P : A → Type 0) (n : ℕ) (xs : List A) → Each P xs → Each P (drop n xs)
-each-drop P zero xs all = all
-each-drop P (suc n) [] all = all
-each-drop P (suc n) (x ∷ xs) all = each-drop P n xs all.1
+-- ---- whose is the next
 
 module _ (target n : ℕ) (senders : List (List Lane)) (there : n < length senders) where
   abbrev lanes : List Lane
@@ -132,36 +95,62 @@ module _ (target n : ℕ) (senders : List (List Lane)) (there : n < length sende
   left-other : is_way target n lanes ≡ false → left ≡ later
   left-other e = ap (λ (l : List (List Lane)). ways_from target n l) (drop_more senders n [] there) ∙ without-way target n lanes (drop (n + 1) senders) e
 
-  module _ {M S T : Type 0} (ends : MailboxEnds M S T) (inbox : InboxView M) (c : ColumnView S) (is : IsColumn ends inbox left c) where
-    pub next-way : is_way target n lanes ≡ true → is_next n c ≡ true
-    next-way e = ap (is_first n) (is.numbers ∙ ap (λ (ws : List Way). map (λ (w : Way). w.sender) ws) (left-way e)) ∙ eq-eqb n n refl
+-- The next way of executors from this number on, and what is left behind it. Executors between have none.
+pub record IsNextWay (target n : ℕ) (senders : List (List Lane)) (w : Way) (rest : List Way) : Type 0 where
+  pub from : n ≤ w.origin
+  pub there : w.origin < length senders
+  pub own : w.lanes ≡ get_or senders w.origin []
+  pub behind : rest ≡ ways_from target (w.origin + 1) (drop (w.origin + 1) senders)
+  pub between : (m : ℕ) → n ≤ m → m < w.origin → is_way target m (get_or senders m []) ≡ false
 
-    next-other : is_way target n lanes ≡ false → is_next n c ≡ false
-    next-other e = ap (is_first n) (is.numbers ∙ ap (λ (ws : List Way). map (λ (w : Way). w.sender) ws) (left-other e)) ∙ ways-later target (n + 1) n (drop (n + 1) senders) (omega arith)
+beyond : (n m : ℕ) → n ≤ m → (n ≡ m → ⊥) → n + 1 ≤ m
+beyond n m le ne = omega (arith, le, ne)
 
-    -- where they are for this executor, it has a way, and that is the first
-    pub next-left : is_next n c ≡ true → left ≡ way_by n lanes ∷ later
-    next-left e = ⊎_elim
-        (λ (w : is_way target n lanes ≡ true). left-way w)
-        (λ (w : is_way target n lanes ≡ false). absurd (false≢true (sym (next-other w) ∙ e)))
-        (cases_Bool (is_way target n lanes))
+-- where one has none, and none of the others up to a bound, so is it of all of these
+none-between : (target n bound : ℕ) (senders : List (List Lane)) → is_way target n (get_or senders n []) ≡ false → ((m : ℕ) → n + 1 ≤ m → m < bound → is_way target m (get_or senders m []) ≡ false)
+    → (m : ℕ) → n ≤ m → m < bound → is_way target m (get_or senders m []) ≡ false
+none-between target n bound senders here others m from to = ⊎_elim
+    (λ (e : n ≡ m). subst (λ (k : ℕ). is_way target k (get_or senders k []) ≡ false) e here)
+    (λ (e : n ≡ m → ⊥). others m (beyond n m from e) to)
+    (cases_eq n m)
 
-    -- once it has taken its own, if it has any, the column is that of the others
-    pub column-next : IsColumn ends inbox later (column_after n c)
-    column-next = ⊎_elim
-        (λ (w : is_way target n lanes ≡ true).
-        let front = left-way w in
-        subst (λ (d : ColumnView S). IsColumn ends inbox later d) (sym (cond-true (is_next n c) (column_rest c) c (next-way w))) (record {
-          numbers = ap (λ (l : List ℕ). drop 1 l) (is.numbers ∙ ap (λ (ws : List Way). map (λ (v : Way). v.sender) ws) front);
-          senders = each-drop (ends.is_sender inbox.mailbox) 1 c.senders is.senders;
-          sends = sym (drop-map ends.sends_of 1 c.senders) ∙ ap (λ (l : List SenderView). drop 1 l) (is.sends ∙ ap (λ (ws : List Way). map (λ (v : Way). fresh_sends v.lanes) ws) front);
-          count = let size = ap (λ (ws : List Way). length ws) front in let cut = length-drop 1 c.seats in let n = is.count in omega (arith, size, cut, n);
-          seats = All-drop (λ s. s ≡ new_send_seat inbox.name s.number) 1 c.seats is.seats;
-        }))
-        (λ (w : is_way target n lanes ≡ false).
-        subst (λ (z : List Way × ColumnView S). IsColumn ends inbox z.0 z.1)
-        (λ i. (left-other w i, sym (cond-false (is_next n c) (column_rest c) c (next-other w)) i)) is)
-        (cases_Bool (is_way target n lanes))
+all-past : (target n : ℕ) (senders : List (List Lane)) → length senders ≤ n → ways_from target n (drop n senders) ≡ []
+all-past target n senders past = ap (λ (l : List (List Lane)). ways_from target n l) (drop_all n senders past)
+
+pub next-way : (target n more : ℕ) (senders : List (List Lane)) (w : Way) (rest : List Way) → n + more ≡ length senders → ways_from target n (drop n senders) ≡ w ∷ rest → IsNextWay target n senders w rest
+next-way target n zero senders w rest all front = absurd (nil-cons w rest (sym (all-past target n senders (omega (arith, all))) ∙ front))
+next-way target n (suc more) senders w rest all front = ⊎_elim
+    (λ (e : is_way target n (get_or senders n []) ≡ true).
+    let is = sym (left-way target n senders there e) ∙ front in
+    let mine : way_by n (get_or senders n []) ≡ w = same_Some (way_by n (get_or senders n [])) w (cons-head (way_by n (get_or senders n [])) w (ways_from target (n + 1) (drop (n + 1) senders)) rest is) in
+    subst (λ (v : Way). IsNextWay target n senders v rest) mine (record {
+      from = omega arith;
+      there = there;
+      own = refl;
+      behind = sym (tail-is (way_by n (get_or senders n [])) w (ways_from target (n + 1) (drop (n + 1) senders)) rest is);
+      between = λ m from to. absurd (omega (arith, from, to));
+    }))
+    (λ (e : is_way target n (get_or senders n []) ≡ false).
+    let next = next-way target (n + 1) more senders w rest (omega (arith, all)) (sym (left-other target n senders there e) ∙ front) in
+    let from = next.from in
+    record { from = omega (arith, from); there = next.there; own = next.own; behind = next.behind; between = none-between target n w.origin senders e next.between })
+    (cases_Bool (is_way target n (get_or senders n [])))
+  where
+    there : n < length senders
+    there = omega (arith, all)
+
+-- where none is left, none of these executors has one
+pub no-more : (target n more : ℕ) (senders : List (List Lane)) → n + more ≡ length senders → ways_from target n (drop n senders) ≡ [] → (m : ℕ) → n ≤ m → m < length senders → is_way target m (get_or senders m []) ≡ false
+no-more target n zero senders all none = λ m from to. absurd (omega (arith, all, from, to))
+no-more target n (suc more) senders all none = ⊎_elim
+    (λ (e : is_way target n (get_or senders n []) ≡ true).
+    absurd (nil-cons (way_by n (get_or senders n [])) (ways_from target (n + 1) (drop (n + 1) senders)) (sym none ∙ left-way target n senders there e)))
+    (λ (e : is_way target n (get_or senders n []) ≡ false).
+    none-between target n (length senders) senders e (no-more target (n + 1) more senders (omega (arith, all)) (sym (left-other target n senders there e) ∙ none)))
+    (cases_Bool (is_way target n (get_or senders n [])))
+  where
+    there : n < length senders
+    there = omega (arith, all)
 
 -- ---- a mailbox for the ways
 

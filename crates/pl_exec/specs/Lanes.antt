@@ -1,5 +1,5 @@
 -- The lanes between executors.
-use Rattle.std.specs.Prelude.{ℕ, ◌+◌, ◌≤◌, ◌==◌, ◌&&◌, Bool, false, not, List, [], ◌∷◌, ◌++◌, length, map, filter, cond, get_or, set, slice_get, All, if◌then◌else◌}
+use Rattle.std.specs.Prelude.{ℕ, ◌+◌, ◌≤◌, ◌==◌, ◌&&◌, Bool, false, not, List, [], ◌∷◌, ◌++◌, length, map, filter, cond, slice_get, All, if◌then◌else◌}
 use Rattle.std.specs.Option.{option_map_or}
 use Rattle.std.specs.List.{flat_map, range_with_len}
 use Rattle.pl_build.specs.declared.limits.TheConstants.{MAX_HANDLERS}
@@ -15,19 +15,15 @@ use Rattle.pl_exec.specs.Opening.{LaneTable, table_lanes}
 abbrev pub lanes_at : ℕ → ℕ → ℕ → List Lane
 lanes_at channel hops hop = if hop + 1 == hops then data_lane channel hop ∷ [] else data_lane channel hop ∷ flags_lane channel hop ∷ []
 
--- one lane more of a sender, at the end of its list
-abbrev pub with_last : List (List Lane) → ℕ → Lane → List (List Lane)
-with_last senders sender lane = set senders sender (get_or senders sender [] ++ lane ∷ [])
-
 -- one lane more at the way from an executor to another, and none from one to itself
 abbrev pub with_lane : LaneTable → ℕ → ℕ → Lane → LaneTable
-with_lane lanes sender target lane =
-    map (λ y. map (λ x. table_lanes lanes x y ++ cond (not (x == y) && ((sender == x) && (target == y))) (lane ∷ []) []) (range_with_len 0 (length lanes))) (range_with_len 0 (length lanes))
+with_lane lanes origin target lane =
+    map (λ y. map (λ x. table_lanes lanes x y ++ cond (not (x == y) && ((origin == x) && (target == y))) (lane ∷ []) []) (range_with_len 0 (length lanes))) (range_with_len 0 (length lanes))
 
 -- so many lanes more at that way
 abbrev pub with_lanes : LaneTable → ℕ → ℕ → List Lane → LaneTable
-with_lanes lanes sender target [] = lanes
-with_lanes lanes sender target (l ∷ ls) = with_lanes (with_lane lanes sender target l) sender target ls
+with_lanes lanes origin target [] = lanes
+with_lanes lanes origin target (l ∷ ls) = with_lanes (with_lane lanes origin target l) origin target ls
 
 module _ {S T : Type 0} where
   -- those of these channels, of which the first has this number
@@ -47,11 +43,11 @@ module _ {S T : Type 0} where
   abbrev pub crosses : List (ChannelPartView S T) → ℕ → ℕ → Lane → Bool
   crosses ps x y l = not (x == y) && ((origin_of ps l == x) && (target_of ps l == y))
 
-  -- for each of so many targets, and for each sender, those of some lanes that go from that sender to that target
+  -- for each of so many targets, and for each origin, those of some lanes that go from that origin to that target
   abbrev pub table_of : List (ChannelPartView S T) → ℕ → List Lane → LaneTable
   table_of ps count lanes = map (λ y. map (λ x. filter (crosses ps x y) lanes) (range_with_len 0 count)) (range_with_len 0 count)
 
-  -- for each of so many targets, and for each sender, the lanes from that sender to that target
+  -- for each of so many targets, and for each origin, the lanes from that origin to that target
   abbrev pub lane_table : List (ChannelPartView S T) → ℕ → LaneTable
   lane_table ps count = table_of ps count (every_lane ps)
 

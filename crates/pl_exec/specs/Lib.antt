@@ -5,6 +5,7 @@ pub mod ExecutorNodes
 pub mod Lanes
 pub mod Sharing
 pub mod Reported
+pub mod RunStages
 pub mod SessionWords
 pub mod Telling
 pub mod Starting

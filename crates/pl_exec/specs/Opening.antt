@@ -1,7 +1,7 @@
 -- The inboxes of all executors once they are open, what each executor has of them, and the nodes with which it starts.
 use Rattle.std.specs.Global.{Vec}
-use Rattle.std.specs.Prelude.{◌≡◌, ◌≢◌, ℕ, zero, suc, ◌+◌, ◌<◌, ◌≤◌, ◌^◌, ◌==◌, ◌||◌, Bool, true, false, not, cond, List, [], ◌∷◌, drop, length, map, get_or, slice_get, All, Some, None}
-use Rattle.std.specs.Option.{option_map_or}
+use Rattle.std.specs.Prelude.{◌≡◌, ◌≢◌, ℕ, ◌+◌, ◌-◌, ◌<◌, ◌≤◌, ◌^◌, ◌==◌, ◌||◌, Bool, true, false, not, cond, List, [], ◌∷◌, ◌++◌, length, map, filter, get_or, replicate, slice_get, All, Some, None}
+use Rattle.std.specs.List.{range_with_len}
 use Rattle.pl_event.specs.declared.envelopes.Lane.{Lane}
 use Rattle.pl_context.specs.Stops.{HasPlaces, AreAmong, no_stops}
 use Rattle.pl_queue.specs.Ends.{MailboxEnds}
@@ -18,21 +18,31 @@ use Rattle.pl_outbox.specs.declared.inbox.Inbox.{Inbox}
 use Rattle.pl_outbox.specs.OutboxViews.{OutboxView, waits_for}
 use Rattle.pl_threads.specs.NodesViews.{OwnNodesView}
 use Rattle.pl_threads.specs.Running.{ExecutorView}
+use Rattle.pl_exec.specs.declared.lanes.Leaving.{Leaving}
+use Rattle.pl_exec.specs.declared.lanes.WayIn.{WayIn}
 
 -- ---- the lanes
 
--- The lanes between executors: for each target, and for each sender, those from that sender to that target.
+-- The lanes between executors: for each target, and for each origin, those from that origin to that target.
 abbrev pub LaneTable : Type 0
 LaneTable = List (List (List Lane))
 
-abbrev pub lanes_in : List (Vec (Vec Lane)) → LaneTable
-lanes_in lanes = map (λ target. map (λ sender. sender.items) target.items) lanes
+-- those of these lanes that go to a target
+abbrev pub lanes_with : List Leaving → ℕ → List Lane
+lanes_with leaving target = map (λ l. l.lane) (filter (λ l. l.target == target) leaving)
+
+abbrev pub senders_to : List (Vec Leaving) → ℕ → List (List Lane)
+senders_to lanes target = map (λ leaving. lanes_with leaving.items target) lanes
+
+-- by what each executor writes to others
+abbrev pub lanes_in : List (Vec Leaving) → LaneTable
+lanes_in lanes = map (senders_to lanes) (range_with_len 0 (length lanes))
 
 abbrev pub lanes_to : LaneTable → ℕ → List (List Lane)
 lanes_to lanes target = get_or lanes target []
 
 abbrev pub table_lanes : LaneTable → ℕ → ℕ → List Lane
-table_lanes lanes sender target = get_or (lanes_to lanes target) sender []
+table_lanes lanes origin target = get_or (lanes_to lanes target) origin []
 
 -- each target has a list for each executor
 abbrev pub IsSquare : LaneTable → Type 0
@@ -63,53 +73,56 @@ inbox_view inbox = record { mailbox = inbox.mailbox; name = inbox.admission.name
 
 -- The way of an executor to a target, by the lanes between them.
 pub record Way : Type 0 where
-  pub sender : ℕ
+  pub origin : ℕ
   pub lanes : List Lane
 
 abbrev pub way_by : ℕ → List Lane → Way
-way_by sender lanes = record { sender = sender; lanes = lanes }
+way_by origin lanes = record { origin = origin; lanes = lanes }
 
 -- an executor has a way to each target to which it has lanes, and to itself
 abbrev pub is_way : ℕ → ℕ → List Lane → Bool
-is_way target sender lanes = (sender == target) || not (length lanes == 0)
+is_way target origin lanes = (origin == target) || not (length lanes == 0)
 
 -- the ways to a target from executors with these lanes there, of which the first has this number
 abbrev pub ways_from : ℕ → ℕ → List (List Lane) → List Way
 ways_from target n [] = []
 ways_from target n (lanes ∷ more) = cond (is_way target n lanes) (way_by n lanes ∷ ways_from target (n + 1) more) (ways_from target (n + 1) more)
 
+-- the way of one of them, if it has one
+abbrev pub way_if : ℕ → ℕ → List Lane → List Way
+way_if target origin lanes = cond (is_way target origin lanes) (way_by origin lanes ∷ []) []
+
 -- those of all executors
 abbrev pub ways_to : ℕ → List (List Lane) → List Way
 ways_to target senders = ways_from target 0 senders
+
+abbrev pub ways_in : List WayIn → List Way
+ways_in ways = map (λ way. way_by way.origin way.lanes.items) ways
+
+-- these are ways of executors before this one
+abbrev pub AreBefore : ℕ → List Way → Type 0
+AreBefore origin ways = All (λ way. way.origin < origin) ways
+
+-- the ways to a target get these lanes of the executor that comes last among them
+abbrev pub GetLanes : ℕ → ℕ → List Lane → List Way → List Way → Type 0
+GetLanes target origin lanes before after = (others : List Way) (own : List Lane) → AreBefore origin others → before ≡ others ++ way_if target origin own → after ≡ others ++ way_if target origin (own ++ lanes)
+
+-- For each target the ways to it.
+pub record AreAllWays (lanes : LaneTable) (table : List (Vec WayIn)) : Type 0 where
+  pub count : length table ≡ length lanes
+  pub each : (target : ℕ) (ways : Vec WayIn) → slice_get table target ≡ Some ways → ways_in ways.items ≡ ways_to target (lanes_to lanes target)
 
 -- What an executor has of its own inbox.
 pub record OwnView (T : Type 0) : Type 0 where
   pub taker : T
   pub owner : OwnerSeatView
 
--- The column of a target: the senders of its mailbox and the seats of its admission that are left for executors with a way
--- there, one of each for the next of these, and so on.
+-- The column of a target: the senders of its mailbox and the seats of its admission, one of each for each executor that has a
+-- way there, and the numbers of these.
 pub record ColumnView (S : Type 0) : Type 0 where
-  pub numbers : List ℕ
+  pub origins : List ℕ
   pub senders : List S
   pub seats : List SendSeatView
-
--- the next are for the executor of this number
-abbrev pub is_next : {S : Type 0} → ℕ → ColumnView S → Bool
-is_next n c = option_map_or (λ next. next == n) (slice_get c.numbers 0) false
-
--- what is left behind the next
-abbrev pub column_rest : {S : Type 0} → ColumnView S → ColumnView S
-column_rest c = record { numbers = drop 1 c.numbers; senders = drop 1 c.senders; seats = drop 1 c.seats }
-
--- what is left once that executor has taken its own, if it has a way there
-abbrev pub column_after : {S : Type 0} → ℕ → ColumnView S → ColumnView S
-column_after n c = cond (is_next n c) (column_rest c) c
-
--- what is left of all columns once so many executors have
-abbrev pub columns_after : {S : Type 0} → ℕ → List (ColumnView S) → List (ColumnView S)
-columns_after zero columns = columns
-columns_after (suc n) columns = map (column_after n) (columns_after n columns)
 
 module _ {M S T : Type 0} (ends : MailboxEnds M S T) where
   -- The taker and the owner's seat of an inbox with these senders. Nothing was taken, and nothing was closed.
@@ -120,22 +133,22 @@ module _ {M S T : Type 0} (ends : MailboxEnds M S T) where
 
   -- Senders of an inbox on the lanes of these ways, and as many seats. Nothing was sent, and nothing was admitted.
   pub record IsColumn (inbox : InboxView M) (ways : List Way) (c : ColumnView S) : Type 0 where
-    pub numbers : c.numbers ≡ map (λ way. way.sender) ways
+    pub origins : c.origins ≡ map (λ way. way.origin) ways
     pub senders : Each (ends.is_sender inbox.mailbox) c.senders
     pub sends : map ends.sends_of c.senders ≡ map (λ way. fresh_sends way.lanes) ways
     pub count : length c.seats ≡ length ways
     pub seats : All (λ s. s ≡ new_send_seat inbox.name s.number) c.seats
 
-  -- So are the columns of all targets, once so many executors have taken theirs.
-  pub record AreColumns (lanes : LaneTable) (n : ℕ) (inboxes : List (InboxView M)) (columns : List (ColumnView S)) : Type 0 where
+  -- So are the columns of all targets.
+  pub record AreColumns (lanes : LaneTable) (inboxes : List (InboxView M)) (columns : List (ColumnView S)) : Type 0 where
     pub count : length columns ≡ length inboxes
-    pub each : (target : ℕ) (inbox : InboxView M) (c : ColumnView S) → slice_get inboxes target ≡ Some inbox → slice_get columns target ≡ Some c → IsColumn inbox (ways_from target n (drop n (lanes_to lanes target))) c
+    pub each : (target : ℕ) (inbox : InboxView M) (c : ColumnView S) → slice_get inboxes target ≡ Some inbox → slice_get columns target ≡ Some c → IsColumn inbox (ways_to target (lanes_to lanes target)) c
 
-  -- The inboxes of the first of all targets, what their executors have of them, and their columns, of which nothing was taken.
+  -- The inboxes of the first of all targets, what their executors have of them, and their columns.
   pub record AreOpened (lanes : LaneTable) (inboxes : List (InboxView M)) (all : List (OwnView T)) (columns : List (ColumnView S)) : Type 0 where
     pub count : length all ≡ length inboxes
     pub own : (target : ℕ) (inbox : InboxView M) (o : OwnView T) → slice_get inboxes target ≡ Some inbox → slice_get all target ≡ Some o → IsOwn inbox (lanes_to lanes target) o
-    pub whole : AreColumns lanes 0 inboxes columns
+    pub whole : AreColumns lanes inboxes columns
 
 -- ---- the nodes of an executor
 
@@ -169,35 +182,64 @@ pub record FitAll {N : Type 0} (view_of : N → OwnNodesView) (stands : N → Ty
   pub stand : All stands nodes
   pub each : (number : ℕ) (part : N) (reserved : PlacesView) → slice_get nodes number ≡ Some part → slice_get places number ≡ Some reserved → FitsLanes lanes number (view_of part) reserved
 
--- ---- executors before their first turn
+-- ---- the ways of executors
+
+-- The ways of an executor: by target the number of the way there, and by way its outbox and the places that are reserved for
+-- what waits for it.
+pub record WaysView : Type 0 where
+  pub numbers : List ℕ
+  pub outboxes : List OutboxView
+  pub places : List ℕ
+
+-- none to any of so many targets
+abbrev pub no_ways : ℕ → WaysView
+no_ways count = record { numbers = replicate count (2 ^ 16 - 1); outboxes = []; places = [] }
+
+-- By an outbox on these lanes nothing was sent, and nothing was admitted.
+pub record IsFresh (lanes : List Lane) (b : OutboxView) : Type 0 where
+  pub name : Name
+  pub sends : b.sends ≡ fresh_sends lanes
+  pub seat : b.seat ≡ new_send_seat name b.seat.number
+
+-- The ways of the executor of this number to the first of all targets: one to each to which it has one, on the lanes there, with
+-- the places that are reserved for that target.
+pub record HasWays (lanes : LaneTable) (number : ℕ) (reserved : List ℕ) (count : ℕ) (v : WaysView) : Type 0 where
+  pub targets : List ℕ
+  pub few : length targets ≤ count
+  pub numbers_count : length v.numbers ≡ length lanes
+  pub outboxes_count : length targets ≡ length v.outboxes
+  pub places_count : length targets ≡ length v.places
+  pub ways : (target : ℕ) → target < count → is_way target number (table_lanes lanes number target) ≡ true → (way : ℕ) × (slice_get v.numbers target ≡ Some way) × (slice_get targets way ≡ Some target)
+  pub each : (way target : ℕ) (b : OutboxView) → slice_get targets way ≡ Some target → slice_get v.outboxes way ≡ Some b → IsFresh (table_lanes lanes number target) b
+  pub placed : (way target p : ℕ) → slice_get targets way ≡ Some target → slice_get v.places way ≡ Some p → slice_get reserved target ≡ Some p
+
+-- So it is with the ways of all executors.
+abbrev pub HaveWays : LaneTable → List PlacesView → ℕ → List WaysView → Type 0
+HaveWays lanes places count all = (number : ℕ) (v : WaysView) (p : PlacesView) → slice_get all number ≡ Some v → slice_get places number ≡ Some p → HasWays lanes number p.targets count v
+
+-- A table of lanes, and for each of its executors places for each target.
+pub record HaveTargets (lanes : LaneTable) (places : List PlacesView) : Type 0 where
+  pub square : IsSquare lanes
+  pub count : length places ≡ length lanes
+  pub targets : All (λ p. length p.targets ≡ length lanes) places
 
 module _ {M S T : Type 0} (ends : MailboxEnds M S T) where
-  -- The next sender and the next seat of a column can make an outbox to this inbox.
-  pub record CanSend (inbox : InboxView M) (c : ColumnView S) : Type 0 where
-    pub sender : 0 < length c.senders
-    pub seat : 0 < length c.seats
-    pub senders : Each (ends.is_sender inbox.mailbox) c.senders
-    pub seats : All (λ s. s.name ≡ inbox.name) c.seats
+  -- The column of this target can be given to executors that have their ways to all before it.
+  pub record CanDeal (lanes : LaneTable) (inboxes : List (InboxView M)) (target : ℕ) (c : ColumnView S) (places : List PlacesView) (all : List WaysView) : Type 0 where
+    pub placed : HaveTargets lanes places
+    pub inboxes_count : length inboxes ≡ length lanes
+    pub all_count : length all ≡ length lanes
+    pub there : target < length lanes
+    pub column : (inbox : InboxView M) → slice_get inboxes target ≡ Some inbox → IsColumn ends inbox (ways_to target (lanes_to lanes target)) c
+    pub ways : HaveWays lanes places target all
 
-  -- So it is with the column of each inbox where the next are for the executor of this number.
-  abbrev pub AllCanSend : List (InboxView M) → ℕ → List (ColumnView S) → Type 0
-  AllCanSend inboxes n columns = (target : ℕ) (inbox : InboxView M) (c : ColumnView S) → slice_get inboxes target ≡ Some inbox → slice_get columns target ≡ Some c → is_next n c ≡ true → CanSend inbox c
+  -- So can those of all targets, one after the other.
+  pub record CanDealAll (lanes : LaneTable) (inboxes : List (InboxView M)) (columns : List (ColumnView S)) (places : List PlacesView) : Type 0 where
+    pub placed : HaveTargets lanes places
+    pub inboxes_count : length inboxes ≡ length lanes
+    pub whole : AreColumns ends lanes inboxes columns
 
-  -- an outbox has the next sender and the next seat of a column
-  abbrev pub HasNext : ColumnView S → OutboxView → Type 0
-  HasNext c b = (slice_get (map ends.sends_of c.senders) 0 ≡ Some b.sends) × (slice_get c.seats 0 ≡ Some b.seat)
-
-  -- The ways of the executor of this number to the first of all targets, in their order: one by each column whose next are for it,
-  -- with the places that are reserved for that target; and by target the number of the way there.
-  pub record HasWays (number : ℕ) (columns : List (ColumnView S)) (reserved : List ℕ) (count : ℕ) (numbers : List ℕ) (outboxes : List OutboxView) (places : List ℕ) : Type 0 where
-    pub targets : List ℕ
-    pub few : length targets ≤ count
-    pub numbers_count : length numbers ≡ count
-    pub outboxes_count : length targets ≡ length outboxes
-    pub places_count : length targets ≡ length places
-    pub ways : (target : ℕ) (c : ColumnView S) → target < count → slice_get columns target ≡ Some c → is_next number c ≡ true → (way : ℕ) × (slice_get numbers target ≡ Some way) × (slice_get targets way ≡ Some target)
-    pub each : (way target : ℕ) (b : OutboxView) → slice_get targets way ≡ Some target → slice_get outboxes way ≡ Some b → (c : ColumnView S) × (slice_get columns target ≡ Some c) × (is_next number c ≡ true) × HasNext c b
-    pub placed : (way target p : ℕ) → slice_get targets way ≡ Some target → slice_get places way ≡ Some p → slice_get reserved target ≡ Some p
+-- ---- executors before their first turn
 
 -- An executor before its first turn: nothing waits for others, nothing was taken, and its queue is accepting.
 pub record IsFirst {N : Type 0} (number : ℕ) (e : ExecutorView N) : Type 0 where
@@ -208,14 +250,13 @@ pub record IsFirst {N : Type 0} (number : ℕ) (e : ExecutorView N) : Type 0 whe
   pub phase : e.owner.phase ≡ Accepting
 
 module _ {M S T N : Type 0} (ends : MailboxEnds M S T) (view_of : N → OwnNodesView) (stands : N → Type 0) where
-  -- An executor with these nodes and these ends of its own can start: both fit the same lanes, and so do the columns, of which
-  -- the executors before it have taken theirs.
-  pub record Starts (inboxes : List (InboxView M)) (number : ℕ) (own_ends : OwnView T) (columns : List (ColumnView S)) (nodes : N) (places : PlacesView) : Type 0 where
+  -- An executor with these nodes, these ends of its own and these ways can start: all fit the same lanes.
+  pub record Starts (inboxes : List (InboxView M)) (number : ℕ) (own_ends : OwnView T) (its_ways : WaysView) (nodes : N) (places : PlacesView) : Type 0 where
     pub lanes : LaneTable
     pub square : IsSquare lanes
     pub count : length inboxes ≡ length lanes
     pub own : (inbox : InboxView M) → slice_get inboxes number ≡ Some inbox → IsOwn ends inbox (lanes_to lanes number) own_ends
-    pub left : AreColumns ends lanes number inboxes columns
+    pub ways : HasWays lanes number places.targets (length lanes) its_ways
     pub stood : stands nodes
     pub fits : FitsLanes lanes number (view_of nodes) places
 

@@ -14,5 +14,6 @@ mod words;
 pub use pl_post::{Post, PostOwner, PostSeat, StillOpen, Unsent};
 pub use pl_threads::{Gate, RunFault};
 pub use planned::Planned;
-pub use running::{QueueKind, run, run_with, run_world};
+pub use reporting::Ran;
+pub use running::{QueueKind, run, run_with, run_world, run_world_with};
 pub use words::{HeadSeats, PROMISES, Reader, Words};

@@ -7,19 +7,20 @@ ghost use Rattle.pl_world.specs.Plans.{planned};
 ghost use Rattle.pl_world.specs.Sessions.{plan_of};
 ghost use Rattle.pl_exec.specs.Opening.{CanOpenAll, lanes_in};
 ghost use Rattle.pl_exec.specs.Reported.{IsRunReport};
+ghost use Rattle.pl_exec.specs.RunStages.{HaveRunStages};
 ghost use Rattle.pl_exec.specs.SessionWords.{AreHeadSeatsOf, AreNewlySeated, HaveMarksOf, recorded_marks};
 ghost use Rattle.pl_exec.specs.Starting.{AreReady, FitExecutors, IsRunOf};
 ghost use Rattle.pl_exec.specs.Telling.{plan_marks};
 
-use crate::lanes::lane_table;
+use crate::lanes::{Leaving, lane_table};
 use crate::nodes::ExecutorNodes;
 use crate::opening::{Places, executors, open_all};
 use crate::planned::Planned;
-use crate::reporting::report_of;
+use crate::reporting::{Ran, report_of};
 use crate::sharing::{channels_on, places, shares};
 use crate::words::{HeadSeats, Seats, Words};
 use pl_channel::whole_parts;
-use pl_event::{Lane, Stage};
+use pl_event::Stage;
 use pl_head::{MemoryTransport, Transport};
 use pl_part::ChannelPart;
 use pl_queue::{Mailbox, RingBox, WaitingBox};
@@ -77,15 +78,8 @@ pub fn run_with<G: Gate + Sync, R: Threads + Wait + Sync>(
     ensures entered { IfOk result (λ _. (e : ℕ) → e < session.world.executors → G.was_entered gate.now e 0) }
 {
     let Session { world, capacity } = session;
-    let seats = seats.by_channel(alloc)?;
-    let given = Setting {
-        rt,
-        alloc,
-        gate,
-        words,
-        seats,
-    };
-    run_world_with::<Brand, Handler, MemoryTransport, G, R>(world, capacity, queue, given)
+    let Ran { report, .. } = run_world_with(rt, alloc, world, capacity, queue, gate, words, seats)?;
+    Ok(report)
 }
 
 /// Runs a world of any stages and transports, whose queues hold `capacity` items each, from 1 to `MAX_CAPACITY`.
@@ -103,14 +97,53 @@ pub fn run_world<S: Stage + Send, T: Transport + Send, G: Gate + Sync, R: Thread
 {
     let words = Words::none(alloc);
     let seats = no_seats(alloc, world.channels().len())?;
-    let own = Setting {
+    let setting = Setting {
         rt,
         alloc,
         gate,
         words: &words,
         seats,
     };
-    run_world_with::<Brand, S, T, G, R>(world, capacity, queue, own)
+    let Ran { report, .. } = run_planned::<Brand, S, T, G, R>(world, capacity, queue, setting)?;
+    Ok(report)
+}
+
+/// Runs a world as `run_world` does, while any thread that has a reader of these words looks at them. The words and the
+/// seats are those that one `Words::of_world`, or `Words::new`, gave for channels with the same marks in the same order. A
+/// run changes the words as `run_with` does.
+///
+/// It gives the stages back too, each with how its context stood.
+pub fn run_world_with<
+    S: Stage + Send,
+    T: Transport + Send,
+    G: Gate + Sync,
+    R: Threads + Wait + Sync,
+>(
+    rt: &R,
+    alloc: Global,
+    world: World<S, T>,
+    capacity: u32,
+    queue: QueueKind,
+    gate: &G,
+    words: &Words,
+    seats: HeadSeats,
+) -> Result<Ran<S>, RunFault>
+    requires capacity { (1 ≤ capacity) × (capacity ≤ MAX_CAPACITY) }
+    requires seats { AreHeadSeatsOf words.now seats }
+    requires marks { HaveMarksOf seats world.channels }
+    ensures report { IfOk result (λ ran. IsRunReport (planned S.meaning T.state capacity world.executors world.channels) ran.report) }
+    ensures stages { IfOk result (λ ran. HaveRunStages S.stands_after (planned S.meaning T.state capacity world.executors world.channels) ran.stages.items) }
+    ensures entered { IfOk result (λ _. (e : ℕ) → e < world.executors → G.was_entered gate.now e 0) }
+{
+    let seats = seats.by_channel(alloc)?;
+    let setting = Setting {
+        rt,
+        alloc,
+        gate,
+        words,
+        seats,
+    };
+    run_planned::<Brand, S, T, G, R>(world, capacity, queue, setting)
 }
 
 /// No seats, for so many channels.
@@ -136,7 +169,7 @@ struct Setting<'a, G, R> {
 }
 
 /// Runs the world of the plan, whose heads tell the words on which they have seats, over queues of this kind.
-fn run_world_with<
+fn run_planned<
     W: Planned + Send + Sync,
     S: Stage + Send,
     T: Transport + Send,
@@ -147,10 +180,11 @@ fn run_world_with<
     capacity: u32,
     queue: QueueKind,
     setting: Setting<'_, G, R>,
-) -> Result<Report, RunFault>
+) -> Result<Ran<S>, RunFault>
     requires run { IsRunOf S.meaning T.state W.world W.plan capacity world }
     requires seated { AreNewlySeated setting.words.now (map recorded_marks world.channels) setting.seats.items }
-    ensures report { IfOk result (λ report. IsRunReport W.plan report) }
+    ensures report { IfOk result (λ ran. IsRunReport W.plan ran.report) }
+    ensures stages { IfOk result (λ ran. HaveRunStages S.stands_after W.plan ran.stages.items) }
     ensures entered { IfOk result (λ _. (e : ℕ) → e < W.plan.executors → G.was_entered setting.entry.gate.now e 0) }
 {
     match queue {
@@ -167,13 +201,14 @@ fn run_by<
     T: Transport + Send,
     G: Gate + Sync,
     R: Threads + Wait + Sync,
->(world: World<S, T>, capacity: u32, setting: Setting<'_, G, R>) -> Result<Report, RunFault>
+>(world: World<S, T>, capacity: u32, setting: Setting<'_, G, R>) -> Result<Ran<S>, RunFault>
 where
     M::Sender: Send,
     M::Taker: Send,
     requires run { IsRunOf S.meaning T.state W.world W.plan capacity world }
     requires seated { AreNewlySeated setting.words.now (map recorded_marks world.channels) setting.seats.items }
-    ensures report { IfOk result (λ report. IsRunReport W.plan report) }
+    ensures report { IfOk result (λ ran. IsRunReport W.plan ran.report) }
+    ensures stages { IfOk result (λ ran. HaveRunStages S.stands_after W.plan ran.stages.items) }
     ensures entered { IfOk result (λ _. (e : ℕ) → e < W.plan.executors → G.was_entered setting.entry.gate.now e 0) }
 {
     let Setting {
@@ -201,14 +236,7 @@ fn share_out<'a, W: Planned, S: Stage, T: Transport>(
     seats: Vec<Option<Seats>>,
     parts: Vec<ChannelPart<S, T>>,
     count: usize,
-) -> Result<
-    (
-        Vec<ExecutorNodes<'a, S, T>>,
-        Vec<Places>,
-        Vec<Vec<Vec<Lane>>>,
-    ),
-    AllocError,
->
+) -> Result<(Vec<ExecutorNodes<'a, S, T>>, Vec<Places>, Vec<Vec<Leaving>>), AllocError>
     requires world { W.world ≡ world_of true W.plan }
     requires ready { AreReady S.meaning S.stands_after T.state W.plan parts.items }
     requires executors { count ≡ W.plan.executors }

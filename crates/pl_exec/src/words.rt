@@ -15,7 +15,7 @@ use pl_threads::RunFault;
 use pl_words::promises::{MAX_PROMISES, Promises, SettleSeat};
 use pl_words::watermark::{HeadSeat, Mark, Watermark};
 use pl_words::{promises, watermark};
-use pl_world::{Recorded, Session};
+use pl_world::{Recorded, Session, World};
 use std::alloc::{AllocError, Global};
 use std::marker::Model;
 
@@ -263,7 +263,25 @@ impl Words {
         ensures own_readers { IfOk result (λ new. All (IsReaderOf new.0) new.2.items) }
         ensures refused { IfErr result (λ e. e ≡ RunFault.Memory) }
     {
-        Ok(words_of(alloc, session.world.channels(), readers)?)
+        Words::of_world(alloc, &session.world, readers)
+    }
+
+    /// The words of the channels of a world of any stages and transports, as [`Words::new`] has those of a session's.
+    pub fn of_world<S: Stage, T: Transport>(
+        alloc: Global,
+        world: &World<S, T>,
+        readers: u16,
+    ) -> Result<(Words, HeadSeats, Vec<Reader>), RunFault>
+        ensures channels { IfOk result (λ new. length new.0 ≡ length world.now.channels) }
+        ensures heads { IfOk result (λ new. new.1 ≡ new_head_seats new.0 world.now.channels) }
+        ensures count { IfOk result (λ new. length new.2.items ≡ readers) }
+        ensures readers { IfOk result (λ new. All (λ r. r ≡ new_sights new.0) new.2.items) }
+        ensures own_heads { IfOk result (λ new. AreHeadSeatsOf new.0 new.1) }
+        ensures marks { IfOk result (λ new. HaveMarksOf new.1 world.now.channels) }
+        ensures own_readers { IfOk result (λ new. All (IsReaderOf new.0) new.2.items) }
+        ensures refused { IfErr result (λ e. e ≡ RunFault.Memory) }
+    {
+        Ok(words_of(alloc, world.channels(), readers)?)
     }
 
     /// The words of no channel.

@@ -4,6 +4,8 @@
 #[cfg(test)]
 mod gate_tests;
 #[cfg(test)]
+mod kept_tests;
+#[cfg(test)]
 mod seen_tests;
 #[cfg(test)]
 mod sessions;

@@ -117,11 +117,30 @@ fn no_readers(rt: HostRuntime) -> Result<(), Fail> {
     Ok(())
 }
 
+/// A world has the words that a session of it has.
+#[test]
+fn words_of_a_world(rt: HostRuntime) -> Result<(), Fail> {
+    let alloc = rt.alloc();
+    let session = read_session(alloc, on_loops(alloc, &[PING, NOTHING])?.as_str())?;
+    let (words, _heads, readers) = Words::of_world(alloc, &session.world, 2)?;
+    let (mut first, mut second) = pair(readers);
+    assert_same(&rt, words.look(1, &mut first), FRESH);
+    assert_same(&rt, words.look(2, &mut first), None);
+    assert_same(&rt, words.peek(1, 0, &mut second), None);
+    let (_words, _heads, none) = Words::of_world(alloc, &session.world, 0)?;
+    assert!(rt; none.is_empty());
+    Ok(())
+}
+
 #[test]
 fn refused_memory(rt: HostRuntime) -> Result<(), Fail> {
     // Where an allocation is made to fail, the first call is refused, and the second finds memory.
     let session = read_session(rt.alloc(), on_loops(rt.alloc(), &[PING, NOTHING])?.as_str())?;
     let alloc = rt.alloc();
     assert!(rt; Words::new(alloc, &session, 2).is_ok() || Words::new(alloc, &session, 2).is_ok());
+    let world = &session.world;
+    assert!(rt;
+        Words::of_world(alloc, world, 2).is_ok() || Words::of_world(alloc, world, 2).is_ok()
+    );
     Ok(())
 }

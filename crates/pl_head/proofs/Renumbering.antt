@@ -7,7 +7,7 @@ use Rattle.std.specs.List.Sorted.{IsStrictlyIncreasing}
 use Rattle.pl_event.specs.declared.outcomes.Outcome.{Outcome}
 use Rattle.pl_head.specs.declared.outbound_buffer.Entry.{Entry}
 use Rattle.pl_head.specs.WaitingMessages.{entry_numbers, entries_size, first_number, renumbered}
-use Rattle.pl_head.specs.Settling.{same_as, times, settled_at, open_at, numbers_from, Account}
+use Rattle.pl_head.specs.Settling.{same_as, times, counted_at, settled_at, open_at, numbers_from, Account}
 use Rattle.pl_head.proofs.Accounts.{same_as-same, account-within}
 use Rattle.pl_head.proofs.WaitingSizes.{entries_size-cons}
 
@@ -146,19 +146,12 @@ settled-or-open zero (None ∷ os) h = refl
 settled-or-open zero (Some o ∷ os) h = refl
 settled-or-open (suc n) (o ∷ os) h = settled-or-open n os (omega (arith, h))
 
-settled_at-drop : (first n : ℕ) (os : List (Option Outcome)) → settled_at n (drop first os) ≡ settled_at (first + n) os
-settled_at-drop zero n os = ap (λ (k : ℕ). settled_at k os) (sym (zero-add n))
-settled_at-drop (suc first) n [] = refl
-settled_at-drop (suc first) n (o ∷ os) =
+counted_at-drop : (count : Option Outcome → ℕ) (first n : ℕ) (os : List (Option Outcome)) → counted_at count n (drop first os) ≡ counted_at count (first + n) os
+counted_at-drop count zero n os = ap (λ (k : ℕ). counted_at count k os) (sym (zero-add n))
+counted_at-drop count (suc first) n [] = refl
+counted_at-drop count (suc first) n (o ∷ os) =
     let next : suc (first + n) ≡ suc first + n = omega arith in
-    settled_at-drop first n os ∙ ap (λ (k : ℕ). settled_at k (o ∷ os)) next
-
-open_at-drop : (first n : ℕ) (os : List (Option Outcome)) → open_at n (drop first os) ≡ open_at (first + n) os
-open_at-drop zero n os = ap (λ (k : ℕ). open_at k os) (sym (zero-add n))
-open_at-drop (suc first) n [] = refl
-open_at-drop (suc first) n (o ∷ os) =
-    let next : suc (first + n) ≡ suc first + n = omega arith in
-    open_at-drop first n os ∙ ap (λ (k : ℕ). open_at k (o ∷ os)) next
+    counted_at-drop count first n os ∙ ap (λ (k : ℕ). counted_at count k (o ∷ os)) next
 
 account-from : (first : ℕ) (waiting settled : List ℕ) (os : List (Option Outcome)) → first ≤ length os → Account waiting settled os
     → Account (numbers_from first waiting) (numbers_from first settled) (drop first os)
@@ -167,8 +160,8 @@ account-from first waiting settled os within a = record {
       let both = length-both first settled waiting (λ n h. let one = settled-or-open n os (omega (arith, h, within)) in let s = a.once n in let w = a.waits n in omega (arith, one, s, w)) in
       let size = a.size in
       omega (arith, both, size, length-drop first os, within);
-  once = λ n. times-from first n settled ∙ a.once (first + n) ∙ sym (settled_at-drop first n os);
-  waits = λ n. times-from first n waiting ∙ a.waits (first + n) ∙ sym (open_at-drop first n os);
+  once = λ n. times-from first n settled ∙ a.once (first + n) ∙ sym (counted_at-drop _ first n os);
+  waits = λ n. times-from first n waiting ∙ a.waits (first + n) ∙ sym (counted_at-drop _ first n os);
 }
 
 -- ---- none is below

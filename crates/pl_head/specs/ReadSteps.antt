@@ -1,6 +1,9 @@
 -- The items that the read steps of a channel bring to its first lane: the events of each step, and after all of them
 -- the end. Where the channel is aborted, the abort is the last step, in the place of the end, and fewer bursts may come.
-use Rattle.std.specs.Prelude.{ℕ, ◌+◌, List, [], ◌∷◌, ◌++◌, length, take, Bool, ◌&&◌, ◌||◌, not, is_some, if◌then◌else◌, nat_le, nat_lt, slice_index_or, Option, Some, None}
+use Rattle.std.specs.Prelude.{ℕ, ◌+◌, List, [], ◌∷◌, ◌++◌, length, map, take, Bool, ◌&&◌, ◌||◌, not, is_some, if◌then◌else◌, nat_le, nat_lt, slice_index_or, Option, Some, None}
+use Rattle.std.specs.Borrow.{Bor}
+use Rattle.pl_event.specs.declared.elements.Element.{Element}
+use Rattle.pl_event.specs.declared.elements.Element.TheVariants.{Chunk}
 use Rattle.pl_event.specs.declared.envelopes.Lane.{Lane}
 use Rattle.pl_event.specs.declared.envelopes.Item.{Item}
 use Rattle.pl_event.specs.declared.envelopes.Item.TheVariants as item
@@ -9,6 +12,14 @@ use Rattle.pl_event.specs.Hops.{data_lane}
 use Rattle.pl_event.specs.Inputs.{Bursts, read_steps, input_after}
 use Rattle.pl_context.specs.Ports.{as_items}
 use Rattle.pl_head.specs.declared.inputs.ReadPlan.{ReadPlan}
+
+-- a burst of these chunks, without a user event
+abbrev pub chunk_burst : List (Bor (List ℕ)) → List Element
+chunk_burst chunks = map (λ chunk. Chunk chunk.now) chunks
+
+-- such bursts, to be read to their end
+abbrev pub chunk_plan : List (Bor (List (Bor (List ℕ)))) → ReadPlan
+chunk_plan bursts = record { bursts = map (λ burst. chunk_burst burst.now) bursts; abort_after = None }
 
 -- the lane on which a channel's input comes in
 abbrev pub entrance : ℕ → Lane

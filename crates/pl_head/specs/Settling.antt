@@ -1,5 +1,5 @@
 -- In which order writes are settled: the numbers of those that have an outcome, each once.
-use Rattle.std.specs.Prelude.{◌≡◌, ℕ, zero, suc, ◌+◌, ◌-◌, List, [], ◌∷◌, ◌++◌, length, Option, Some, None, if◌then◌else◌, nat_le}
+use Rattle.std.specs.Prelude.{◌≡◌, ℕ, zero, suc, ◌+◌, ◌-◌, List, [], ◌∷◌, ◌++◌, length, Option, is_some, if◌then◌else◌, nat_le}
 use Rattle.std.specs.List.Sorted.{IsStrictlyIncreasing}
 use Rattle.pl_event.specs.declared.outcomes.Outcome.{Outcome}
 
@@ -20,19 +20,19 @@ abbrev pub numbers_from : ℕ → List ℕ → List ℕ
 numbers_from first [] = []
 numbers_from first (n ∷ ns) = if nat_le first n then (n - first) ∷ numbers_from first ns else numbers_from first ns
 
+-- what is counted of what became of write n, and 0 where there is no such write
+abbrev pub counted_at : (Option Outcome → ℕ) → ℕ → List (Option Outcome) → ℕ
+counted_at count n [] = 0
+counted_at count zero (o ∷ os) = count o
+counted_at count (suc n) (o ∷ os) = counted_at count n os
+
 -- 1 where write n has an outcome, else 0
 abbrev pub settled_at : ℕ → List (Option Outcome) → ℕ
-settled_at n [] = 0
-settled_at zero (None ∷ os) = 0
-settled_at zero (Some o ∷ os) = 1
-settled_at (suc n) (o ∷ os) = settled_at n os
+settled_at n os = counted_at (λ o. if is_some o then 1 else 0) n os
 
 -- 1 where write n has none yet, else 0
 abbrev pub open_at : ℕ → List (Option Outcome) → ℕ
-open_at n [] = 0
-open_at zero (None ∷ os) = 1
-open_at zero (Some o ∷ os) = 0
-open_at (suc n) (o ∷ os) = open_at n os
+open_at n os = counted_at (λ o. if is_some o then 0 else 1) n os
 
 -- The settled numbers are the writes with an outcome (ChannelPromise). Each of these stands once in the list, and no
 -- other number does.

@@ -1,18 +1,18 @@
 //! The recorded input of a channel, read step by step.
 
-ghost use Rattle.std.specs.Prelude.{◌≡◌, ℕ, ◌+◌, ◌<◌, ◌^◌, ◌≤◌, [], ◌∷◌, List, length, Bool, true, false, not, is_some, ◌&&◌, ◌++◌, OnOk, OnErr};
+ghost use Rattle.std.specs.Prelude.{◌≡◌, ℕ, ◌+◌, ◌<◌, ◌^◌, ◌≤◌, [], ◌∷◌, List, length, Bool, true, false, not, is_some, ◌&&◌, ◌++◌, IfOk, OnOk, OnErr};
 ghost use Rattle.pl_event.specs.Inputs.{Bursts, burst_events, recorded_input};
 ghost use Rattle.pl_context.specs.Stops.{HasPlaces};
 ghost use Rattle.pl_context.specs.OutputsViews.{PutsAll};
 ghost use Rattle.pl_event.specs.declared.envelopes.Item.TheVariants as item;
 ghost use Rattle.pl_context.specs.Ports.{as_items, numbered, offered, port_after};
-ghost use Rattle.pl_head.specs.ReadSteps.{step_items, is_burst, is_abort, bursts_before, bursts_read, has_step};
+ghost use Rattle.pl_head.specs.ReadSteps.{chunk_burst, chunk_plan, step_items, is_burst, is_abort, bursts_before, bursts_read, has_step};
 ghost use Rattle.pl_head.specs.InputStand.{InputStands, fed_plan, fed_input, new_input, next_items, left_after, burst_next, abort_next, last_next, input_after_step, failed_input, items_left, steps_left, takes_bursts};
 ghost use Rattle.pl_event.specs.declared.limits.TheConstants.{MAX_ITEMS};
 
 use pl_context::{Outputs, Port};
-use pl_event::{Cause, Element, Event, Item, Kind, Sequence};
-use std::alloc::AllocError;
+use pl_event::{ByteString, Cause, Element, Event, Item, Kind, Sequence};
+use std::alloc::{AllocError, Global};
 use std::collections::VecDeque;
 use std::marker::Model;
 
@@ -22,6 +22,33 @@ use std::marker::Model;
 pub struct ReadPlan {
     pub bursts: Sequence<Sequence<Element>>,
     pub abort_after: Option<u32>,
+}
+
+impl ReadPlan {
+    /// Bursts of these chunks, without a user event, and the end after them. An `Err` is out of memory.
+    pub fn of_chunks(alloc: Global, bursts: &[&[&[u8]]]) -> Result<Self, AllocError>
+        ensures { IfOk result (λ plan. plan ≡ chunk_plan bursts.now) }
+    {
+        let mut made = Vec::with_capacity(alloc, bursts.len())?;
+        for burst in bursts {
+            made.push(chunk_burst(alloc, burst)?)?;
+        }
+        Ok(ReadPlan {
+            bursts: Sequence::from_vec(made),
+            abort_after: None,
+        })
+    }
+}
+
+/// A burst of these chunks.
+fn chunk_burst(alloc: Global, chunks: &[&[u8]]) -> Result<Sequence<Element>, AllocError>
+    ensures { IfOk result (λ burst. burst ≡ chunk_burst chunks.now) }
+{
+    let mut burst = Vec::with_capacity(alloc, chunks.len())?;
+    for chunk in chunks {
+        burst.push(Element::Chunk(ByteString::from_slice(alloc, chunk)?))?;
+    }
+    Ok(Sequence::from_vec(burst))
 }
 
 /// The recorded input of a channel: what is left of it, and the lane of the first hop, to which it is given.

@@ -61,7 +61,7 @@ module _ {S T : Type 0} (meaning : S → Meaning) (stands_after : S → List Eve
   taken-all = all-taken world (nodes_view meaning live.stations.nodes) live.stations.stations.items s.backlogs live.stations.work s.stands.runs s.executors s.rests sound.1
 
   rule : IsChannelPlan 1 p
-  rule = All-at (IsChannelPlan 1) (p ∷ []) 0 p s.ruled.channels refl
+  rule = All-at (IsChannelPlan 1) (p ∷ []) 0 p s.plan.ruled.channels refl
 
   -- one item more than the events of a lane where the end was read
   abbrev more : ℕ

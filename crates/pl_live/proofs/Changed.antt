@@ -9,6 +9,7 @@ use Rattle.pl_head.specs.Transports.{TransportState}
 use Rattle.pl_world.specs.Plans.{ChannelPlan}
 use Rattle.pl_world.specs.Reports.{tail_of}
 use Rattle.pl_live.specs.LiveStand.{LiveView, LiveStands, LiveRests, HandsOut, ReadsFed, accepted_in, handed_in, parts_of}
+use Rattle.pl_live.proofs.FedGoes.{goes-with}
 
 reads-end : {T : Type 0} (p : ChannelPlan) (ends : Bool) (h : HeadView T) → ReadsFed p ends h → ReadsFed p true h
 reads-end p ends h r = record { reads = r.reads; failed = r.failed; stand = r.stand; by_failure = r.by_failure; not_ended = λ e. absurd (both_ways true e refl) }
@@ -17,10 +18,7 @@ module _ {S T : Type 0} (meaning : S → Meaning) (stands_after : S → List Eve
   pub handed-out : (delivered : ℕ) (front : List Event) (consumed : ℕ) → HandsOut (tail_of p) delivered front (handed_in (parts_of live)) → consumed ≤ length (accepted_in state (parts_of live))
       → LiveStands meaning stands_after state p (record live { delivered = delivered; front = front; consumed = consumed })
   handed-out delivered front consumed events within = record {
-    ruled = s.ruled;
-    small = s.small;
-    thrifty_inbound = s.thrifty_inbound;
-    thrifty_outbound = s.thrifty_outbound;
+    plan = s.plan;
     fed = s.fed;
     goes = s.goes;
     handed = record { events = events; gone_is = s.handed.gone_is; consumed_within = within };
@@ -32,27 +30,14 @@ module _ {S T : Type 0} (meaning : S → Meaning) (stands_after : S → List Eve
 
   pub end-said : LiveStands meaning stands_after state p (record live { ends = true })
   end-said = record {
-    ruled = s.ruled;
-    small = s.small;
-    thrifty_inbound = s.thrifty_inbound;
-    thrifty_outbound = s.thrifty_outbound;
+    plan = s.plan;
     fed = s.fed;
     goes = record {
       part = s.goes.part;
       is_alone = s.goes.is_alone;
       by_plan =
           let g = s.goes.by_plan in
-          record {
-            executors_are = g.executors_are;
-            tail_at = g.tail_at;
-            head_at = g.head_at;
-            meant = g.meant;
-            has_head = g.has_head;
-            has_tail = g.has_tail;
-            reads = λ h at. reads-end p live.ends h (g.reads h at);
-            window = g.window;
-            unclosed = g.unclosed;
-          };
+          goes-with meaning stands_after state p live.ends true s.goes.part s.goes.part.path.tail s.goes.part.head g.has_tail g.has_head (λ h at. (reads-end p live.ends h (g.reads h at), g.window h at, g.unclosed h at)) g;
     };
     handed = record { events = s.handed.events; gone_is = s.handed.gone_is; consumed_within = s.handed.consumed_within };
     executors = s.executors;

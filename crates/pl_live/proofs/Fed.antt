@@ -67,8 +67,8 @@ module _ {S T : Type 0} (meaning : S → Meaning) (stands_after : S → List Eve
 
   small : IsSmallChannel p'
   small = λ hop below.
-      let rule = All-at (IsChannelPlan 1) (p ∷ []) 0 p s.ruled.channels refl in
-      let long = lane_small p.inbound p.outbound (recorded_input p'.bursts) hop s.thrifty_inbound s.thrifty_outbound (λ k d within. is_out (get_or p.outbound k d).direction (rule.downwards k d within)) in
+      let rule = All-at (IsChannelPlan 1) (p ∷ []) 0 p s.plan.ruled.channels refl in
+      let long = lane_small p.inbound p.outbound (recorded_input p'.bursts) hop s.plan.thrifty_inbound s.plan.thrifty_outbound (λ k d within. is_out (get_or p.outbound k d).direction (rule.downwards k d within)) in
       let whole = weighs in
       omega (arith, long, whole)
 
@@ -79,7 +79,7 @@ module _ {S T : Type 0} (meaning : S → Meaning) (stands_after : S → List Eve
 
   may : CanBeFed meaning (alone p) 0 p burst part
   may = record {
-    ruled = s.ruled;
+    ruled = s.plan.ruled;
     planned = refl;
     small = small;
     channel = held.channel;
@@ -115,10 +115,12 @@ module _ {S T : Type 0} where
       → parts_of live' ≡ fed_part burst s.goes.part ∷ [] → live'.stations.stations.items ≡ live.stations.stations.items → live'.stations.work ≡ live.stations.work
       → live'.ends ≡ live.ends → live'.delivered ≡ live.delivered → live'.front ≡ live.front → live'.gone ≡ live.gone → live'.consumed ≡ live.consumed → LiveStands meaning stands_after state (fed_channel burst p) live'
   fed-stands meaning stands_after state p burst live live' s is_open reads size parts executors work ends delivered front gone consumed = record {
-    ruled = plan-ruled burst 0 (alone p) p refl s.ruled;
-    small = small meaning stands_after state p burst live s is_open reads live'.room size;
-    thrifty_inbound = s.thrifty_inbound;
-    thrifty_outbound = s.thrifty_outbound;
+    plan = record {
+      ruled = plan-ruled burst 0 (alone p) p refl s.plan.ruled;
+      small = small meaning stands_after state p burst live s is_open reads live'.room size;
+      thrifty_inbound = s.plan.thrifty_inbound;
+      thrifty_outbound = s.plan.thrifty_outbound;
+    };
     fed = weighs meaning stands_after state p burst live s is_open reads live'.room size;
     goes = subst (λ (x : Bool × List (ChannelPartView S T)). GoesAlone meaning stands_after state (fed_channel burst p) x.0 x.1) (λ i. (sym ends i, sym parts i))
         (goes-fed meaning stands_after state p burst live.ends (parts_of live) s.goes reads);

@@ -1,11 +1,13 @@
 -- The nodes of a live channel that is fed a burst go by its plan with this burst more, and so does what was handed out.
-use Rattle.std.proofs.Common.{◌≡◌, ℕ, ◌≤◌, Bool, true, false, List, [], ◌∷◌, ◌++◌, length, Some, refl, sym, ap, subst, ◌∙◌, arith, length-append, append_assoc}
+use Rattle.std.proofs.Common.{◌≡◌, ℕ, ◌≤◌, Bool, true, false, List, [], ◌∷◌, ◌++◌, length, Option, Some, refl, sym, ap, subst, ◌∙◌, arith, length-append, append_assoc}
+use Rattle.std.specs.Prelude.{is_some}
 use Rattle.std.proofs.lemmas.Bool.{false≢true}
 use Rattle.pl_event.specs.declared.elements.Element.{Element}
 use Rattle.pl_event.specs.declared.events.Event.{Event}
 use Rattle.pl_event.specs.Inputs.{burst_events, recorded_input}
 use Rattle.pl_event.specs.Meaning.{Meaning, IsPrefixOf}
 use Rattle.pl_event.proofs.LaneLemmas.{lane-prefix}
+use Rattle.pl_context.specs.TailViews.{TailView}
 use Rattle.pl_head.specs.HeadStand.{HeadView, fed_head, gone_of}
 use Rattle.pl_head.specs.InputStand.{fed_plan, takes_bursts}
 use Rattle.pl_head.specs.Transports.{TransportState}
@@ -18,6 +20,26 @@ use Rattle.pl_world.specs.Reports.{tail_of}
 use Rattle.pl_channel.specs.Feeding.{fed_channel}
 use Rattle.pl_live.specs.LiveStand.{IsUnclosed, GoesByPlan, GoesAlone, HandsOut, ReadsFed, accepted_in, gone_in, handed_in}
 use Rattle.pl_live.proofs.FedViews.{head-fed, of-head, still-there}
+
+-- ---- other ends
+
+-- Nodes of which the tail and the head alone are others go by the plan still, where both are there and this head reads what was fed.
+pub goes-with : {S T : Type 0} (meaning : S → Meaning) (stands_after : S → List Event → Type 0) (state : T → TransportState) (p : ChannelPlan) (ends ends' : Bool) (part : ChannelPartView S T) (tail : Option TailView) (head : Option (HeadView T))
+    → is_some tail ≡ true → is_some head ≡ true → ((h : HeadView T) → head ≡ Some h → ReadsFed p ends' h × ((state h.transport).window ≡ p.window) × IsUnclosed h)
+    → GoesByPlan meaning stands_after state p ends part → GoesByPlan meaning stands_after state p ends' (record part { path = record part.path { tail = tail }; head = head })
+goes-with meaning stands_after state p ends ends' part tail head tail_there head_there fed g = record {
+  executors_are = g.executors_are;
+  tail_at = g.tail_at;
+  head_at = g.head_at;
+  meant = g.meant;
+  has_head = head_there;
+  has_tail = tail_there;
+  reads = λ h at. (fed h at).0;
+  window = λ h at. (fed h at).1;
+  unclosed = λ h at. (fed h at).2;
+}
+
+-- ---- a burst more
 
 -- its head has made the same reads, and is open
 reads-fed : {T : Type 0} (p : ChannelPlan) (burst : List Element) (ends : Bool) (h : HeadView T) → takes_bursts h.input ≡ true → ReadsFed p ends h → ReadsFed (fed_channel burst p) ends (fed_head burst h)

@@ -40,6 +40,7 @@ use Rattle.pl_replay.specs.declared.channels.Channels.{Channels}
 use Rattle.pl_world.specs.Plans.{ChannelPlan}
 use Rattle.pl_world.specs.Reports.{tail_of}
 use Rattle.pl_live.specs.LiveStand.{LiveView, LiveStands, LiveRests, GoesByPlan, HandsOut, HasHanded, IsUnclosed, ReadsFed, accepted_in, alone, consumed_of, gone_in, head_in, parts_of, recorded_in}
+use Rattle.pl_live.proofs.FedGoes.{goes-with}
 use Rattle.pl_live.proofs.IdleNets.{idle-stands}
 use Rattle.pl_live.proofs.LiveEnds.{part-stands}
 use Rattle.pl_live.proofs.Moved.{accepted-at, gone-at, gone-in, handed-at}
@@ -143,10 +144,7 @@ module _ {S T : Type 0} (meaning : S → Meaning) (stands_after : S → List Eve
   pub stands-kept : PartStands (world_of false (alone p)) meaning stands_after state 0 part' → channels_view meaning (part' ∷ []) ≡ channels_view meaning (s.goes.part ∷ []) → GoesByPlan meaning stands_after state p live.ends part' → HasHanded meaning stands_after state p live'
       → LiveStands meaning stands_after state p live'
   stands-kept stands view by_plan handed = record {
-    ruled = s.ruled;
-    small = s.small;
-    thrifty_inbound = s.thrifty_inbound;
-    thrifty_outbound = s.thrifty_outbound;
+    plan = s.plan;
     fed = ap (λ (n : ℕ). weight (recorded_input p.bursts) + n) room ∙ s.fed;
     goes = record { part = part'; is_alone = parts; by_plan = subst (λ (b : Bool). GoesByPlan meaning stands_after state p b part') (sym ends) by_plan };
     handed = handed;
@@ -181,17 +179,7 @@ module _ {S T : Type 0} (meaning : S → Meaning) (stands_after : S → List Eve
       })
       (handed-view part meaning)
       (let g = s.goes.by_plan in
-      record {
-        executors_are = g.executors_are;
-        tail_at = g.tail_at;
-        head_at = g.head_at;
-        meant = g.meant;
-        has_head = g.has_head;
-        has_tail = still-tail part ∙ g.has_tail;
-        reads = g.reads;
-        window = g.window;
-        unclosed = g.unclosed;
-      })
+      goes-with meaning stands_after state p live.ends live.ends part (option_map handed_over part.path.tail) part.head (still-tail part ∙ g.has_tail) g.has_head (λ h at. (g.reads h at, g.window h at, g.unclosed h at)) g)
       handed
 
   -- what that holds is next to be handed out
@@ -237,17 +225,13 @@ module _ {S T : Type 0} (meaning : S → Meaning) (stands_after : S → List Eve
         })
         (forgot-view state part h h' at f meaning)
         (let g = s.goes.by_plan in
-        record {
-          executors_are = g.executors_are;
-          tail_at = g.tail_at;
-          head_at = g.head_at;
-          meant = g.meant;
-          has_head = refl;
-          has_tail = g.has_tail;
-          reads = own (ReadsFed p live.ends) (reads-on (g.reads h at));
-          window = own (λ x. (state x.transport).window ≡ p.window) (ap (λ (t : TransportState). t.window) f.transport ∙ g.window h at);
-          unclosed = own IsUnclosed (λ none. ap (λ (x : HeadView T). x.is_closed) f.same ∙ g.unclosed h at (ap (λ (x : HeadView T). x.failure) (sym f.same) ∙ none));
-        })
+        goes-with meaning stands_after state p live.ends live.ends part part.path.tail (Some h') g.has_tail refl
+        (own (λ x. ReadsFed p live.ends x × ((state x.transport).window ≡ p.window) × IsUnclosed x) (
+          reads-on (g.reads h at),
+          ap (λ (t : TransportState). t.window) f.transport ∙ g.window h at,
+          λ none. ap (λ (x : HeadView T). x.is_closed) f.same ∙ g.unclosed h at (ap (λ (x : HeadView T). x.failure) (sym f.same) ∙ none),
+        ))
+        g)
         handed
 
     pub forgot-out : parts_of live' ≡ forgot state part h h' at f ∷ [] → live'.delivered ≡ live.delivered → live'.front ≡ live.front → live'.gone ≡ h'.gone → live'.consumed ≡ 0 → HasHanded meaning stands_after state p live'

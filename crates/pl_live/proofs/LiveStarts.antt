@@ -86,10 +86,12 @@ module _ {S T : Type 0} (meaning : S → Meaning) (stands_after : S → List Eve
       let head = whole.head in
       let own = λ (Holds : HeadView T → Type 0) (holds : Holds head.0) (h : HeadView T) (there : one.0.head ≡ Some h). subst Holds (same_Some head.0 h (sym head.1 ∙ there)) holds in
       record {
-        ruled = n.ruled;
-        small = All-head IsSmallChannel p [] n.small.channels;
-        thrifty_inbound = All-map IsThrifty meaning pipeline.inbound (λ k d below. thrifty (get_or pipeline.inbound k d));
-        thrifty_outbound = All-map IsThrifty meaning pipeline.outbound (λ k d below. thrifty (get_or pipeline.outbound k d));
+        plan = record {
+          ruled = n.ruled;
+          small = All-head IsSmallChannel p [] n.small.channels;
+          thrifty_inbound = All-map IsThrifty meaning pipeline.inbound (λ k d below. thrifty (get_or pipeline.inbound k d));
+          thrifty_outbound = All-map IsThrifty meaning pipeline.outbound (λ k d below. thrifty (get_or pipeline.outbound k d));
+        };
         fed = refl;
         goes = record {
           part = one.0;

@@ -122,10 +122,7 @@ module _ {S T : Type 0} (meaning : S → Meaning) (stands_after : S → List Eve
     stands-moved now is goes handed gone accepted =
         let consumed = s.handed.consumed_within in
         record {
-          ruled = s.ruled;
-          small = s.small;
-          thrifty_inbound = s.thrifty_inbound;
-          thrifty_outbound = s.thrifty_outbound;
+          plan = s.plan;
           fed = s.fed;
           goes = record { part = now; is_alone = is; by_plan = goes };
           handed = record {

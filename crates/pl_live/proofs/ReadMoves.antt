@@ -20,12 +20,13 @@ use Rattle.pl_net.specs.Nets.{StationsStand, Gives}
 use Rattle.pl_net.specs.Stations.{stations_view}
 use Rattle.pl_net.specs.declared.stations.Stations.{Stations}
 use Rattle.pl_context.specs.OutputsViews.{OutputsView}
+use Rattle.pl_part.specs.HeadHolds.{HeadTook}
 use Rattle.pl_part.specs.Parts.{ChannelPartView, PartMoves}
 use Rattle.pl_channel.specs.Channels.{MayRead, home_of}
 use Rattle.pl_replay.specs.Moves.{nodes_view, nodes_stand, nodes_take, nodes_move}
 use Rattle.pl_replay.specs.declared.channels.Channels.{Channels}
 use Rattle.pl_world.specs.Plans.{ChannelPlan}
-use Rattle.pl_live.specs.LiveStand.{LiveView, LiveStands, IsSettled, IsWritten, head_in, left_in, open_in, parts_of}
+use Rattle.pl_live.specs.LiveStand.{LiveView, LiveStands, IsSettled, IsWritten, ReadsFed, head_in, left_in, open_in, parts_of}
 use Rattle.pl_live.proofs.Moved.{Ran, accepted-at, head-in, has-moved, left-at, open-at, stands-moved}
 use Rattle.pl_live.proofs.Reading.{reads-go, steps-left}
 
@@ -80,20 +81,33 @@ module _ {S T : Type 0} (meaning : S → Meaning) (stands_after : S → List Eve
           most = omega (arith, most, left, was-left);
         }
 
+    -- what its head has read, and the events that it took
+    abbrev fed : ReadsFed p live.ends head.0
+    fed = s.goes.by_plan.reads head.0 head.1
+
+    took : (events : List Event) × HeadTook state events head.0
+    took =
+        let at : slice_get (parts_of live) 0 ≡ Some part = ap (λ (ps : List (ChannelPartView S T)). slice_get ps 0) s.goes.is_alone in
+        let holds = ((s.stands.hold.parts 0 part at).holds.head head.0 head.1).0 in
+        (holds.events, holds.holds.took)
+
+    -- whether a read step was made, by these
+    made-by : (made : Bool) → MayRead state (parts_of live) 0 made → made ≡ (has_step (fed_plan p.bursts) fed.reads fed.failed && not (is_read_held state (fed_plan p.bursts) fed.reads head.0 took.1.ys))
+    made-by made may =
+        let at : slice_get (parts_of live) 0 ≡ Some part = ap (λ (ps : List (ChannelPartView S T)). slice_get ps 0) s.goes.is_alone in
+        may part head.0 (fed_plan p.bursts) fed.reads fed.failed took.1.ys took.1.zs took.1.sizes at head.1 fed.stand took.1.after
+
     -- where none was made the reads are closed, or a burst is held, which waits for a write
     pub not-read : MayRead state (parts_of live) 0 false → (open_in (parts_of live) ≡ false) ⊎ ((0 < left_in (parts_of live)) × ((h : HeadView T) → head_in (parts_of live) ≡ Some h → IsWritten state h → ⊥))
     not-read may =
         let alone = s.goes.is_alone in
         let h = head.0 in
-        let fed = s.goes.by_plan.reads h head.1 in
         let plan = fed_plan p.bursts in
-        let at : slice_get (parts_of live) 0 ≡ Some part = ap (λ (ps : List (ChannelPartView S T)). slice_get ps 0) alone in
-        let took = ((s.stands.hold.parts 0 part at).holds.head h head.1).0.holds.took in
-        let is = may part h plan fed.reads fed.failed took.ys took.zs took.sizes at head.1 fed.stand took.after in
+        let ys = took.1.ys in
         ⊎_elim
         (λ (left : h.input.port.is_open ≡ true).
-        let held = held-by (has_step plan fed.reads fed.failed) (is_read_held state plan fed.reads h took.ys) (sym fed.stand.is_open ∙ left) is in
-        let parts = and-three (is_burst p.bursts fed.reads) h.buffer.is_unwritable (not (is_idle state h took.ys)) held in
+        let held = held-by (has_step plan fed.reads fed.failed) (is_read_held state plan fed.reads h ys) (sym fed.stand.is_open ∙ left) (made-by false may) in
+        let parts = and-three (is_burst p.bursts fed.reads) h.buffer.is_unwritable (not (is_idle state h ys)) held in
         let burst = and_parts (nat_lt 0 fed.reads) (nat_le fed.reads (length p.bursts)) parts.0 in
         let within = leb-true fed.reads (length p.bursts) burst.1 in
         let size = left-at part (parts_of live) alone h head.1 ∙ steps-left p.bursts fed.reads fed.failed h.input fed.stand in
@@ -101,7 +115,7 @@ module _ {S T : Type 0} (meaning : S → Meaning) (stands_after : S → List Eve
           omega (arith, within, size),
           λ x there written.
               let own : h ≡ x = same_Some h x (sym head.1 ∙ sym (head-in part (parts_of live) alone) ∙ there) in
-              both_ways (not (is_idle state h took.ys)) (ap not (subst (λ (y : HeadView T). IsWritten state y) (sym own) written took.ys took.zs took.sizes took.after)) parts.1,
+              both_ways (not (is_idle state h ys)) (ap not (subst (λ (y : HeadView T). IsWritten state y) (sym own) written ys took.1.zs took.1.sizes took.1.after)) parts.1,
         ))
         (λ (closed : h.input.port.is_open ≡ false). inl (open-at part (parts_of live) alone h head.1 ∙ closed))
         (cases_Bool h.input.port.is_open)
@@ -121,13 +135,9 @@ module _ {S T : Type 0} (meaning : S → Meaning) (stands_after : S → List Eve
     pub was-open : MayRead state (parts_of live) 0 true → open_in (parts_of live) ≡ true
     was-open may =
         let alone = s.goes.is_alone in
-        let h = head.0 in
-        let fed = s.goes.by_plan.reads h head.1 in
         let plan = fed_plan p.bursts in
-        let at : slice_get (parts_of live) 0 ≡ Some part = ap (λ (ps : List (ChannelPartView S T)). slice_get ps 0) alone in
-        let took = ((s.stands.hold.parts 0 part at).holds.head h head.1).0.holds.took in
-        let both = and_parts (has_step plan fed.reads fed.failed) (not (is_read_held state plan fed.reads h took.ys)) (sym (may part h plan fed.reads fed.failed took.ys took.zs took.sizes at head.1 fed.stand took.after)) in
-        open-at part (parts_of live) alone h head.1 ∙ fed.stand.is_open ∙ both.0
+        let both = and_parts (has_step plan fed.reads fed.failed) (not (is_read_held state plan fed.reads head.0 took.1.ys)) (sym (made-by true may)) in
+        open-at part (parts_of live) alone head.0 head.1 ∙ fed.stand.is_open ∙ both.0
 
     -- Where nothing is left to be read, or no more can be, and no flushed byte waits, nothing is left to be done.
     pub settles : (h : HeadView T) → head_in (parts_of live) ≡ Some h → h.failure ≡ None → IsWritten state h → (open_in (parts_of live) ≡ false) ⊎ ((left_in (parts_of live) ≡ 0) × (live.ends ≡ true → open_in (parts_of live) ≡ false)) → IsSettled state live.ends h

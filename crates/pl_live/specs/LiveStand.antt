@@ -145,6 +145,13 @@ wants_burst state live h ys = not live.ends && (may_take live && ((steps_left h.
 abbrev pub ReadsSame : {S T : Type 0} → List (ChannelPartView S T) → List (ChannelPartView S T) → Type 0
 ReadsSame parts parts' = (left_in parts' ≡ left_in parts) × (open_in parts' ≡ open_in parts)
 
+-- The plan of a live channel, which is alone: it is small, and its handlers are thrifty.
+pub record IsLivePlan (p : ChannelPlan) : Type 0 where
+  pub ruled : IsPlan (alone p)
+  pub small : IsSmallChannel p
+  pub thrifty_inbound : All IsThrifty p.inbound
+  pub thrifty_outbound : All IsThrifty p.outbound
+
 module _ {S T : Type 0} (meaning : S → Meaning) (stands_after : S → List Event → Type 0) (state : T → TransportState) where
   -- The nodes of a live channel go by its plan: each means what that says of its hop, the head reads what was fed, and its
   -- transport has the plan's window.
@@ -176,10 +183,7 @@ module _ {S T : Type 0} (meaning : S → Meaning) (stands_after : S → List Eve
   -- A live channel stands at the plan of what it was fed. Its nodes, on one executor, stand in the world of that plan, with
   -- nothing on its way; and the events and bytes that were handed out are the first that the plan says.
   pub record LiveStands (p : ChannelPlan) (live : LiveView S T) : Type 0 where
-    pub ruled : IsPlan (alone p)
-    pub small : IsSmallChannel p
-    pub thrifty_inbound : All IsThrifty p.inbound
-    pub thrifty_outbound : All IsThrifty p.outbound
+    pub plan : IsLivePlan p
     pub fed : weight (recorded_input p.bursts) + live.room ≡ MAX_FED
     pub goes : GoesAlone p live.ends (parts_of live)
     pub handed : HasHanded p live

@@ -74,7 +74,7 @@ impl<'a, W: Named, M: Mailbox<W> + Drop> Model for Outboxes<'a, W, M> {
 
 impl<'a, W: Named, M: Mailbox<W> + Drop> Outboxes<'a, W, M> {
     /// Nothing waits. There is an outbox for each way, of which nothing was sent, with so many reserved places; and by executor
-    /// the number of the way to it, or 2^16 - 1 where there is none. `inboxes` are those of all executors, by number.
+    /// the number of the way to it, or `NO_WAY`. `inboxes` are those of all executors, by number.
     pub fn new(
         alloc: Global,
         inboxes: &'a [Inbox<W, M>],

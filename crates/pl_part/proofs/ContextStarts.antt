@@ -49,6 +49,7 @@ module _ {S : Type 0} (world : World) (meaning : S → Meaning) (stands_after : 
     wired = assumption (plan, lanes-apart (meaning stage).direction channel hop k at);
     within = λ o. omega arith;
     stood = λ o. stood;
+    staged = record { begun = λ m. (0, omega arith, stood.stands); whole = λ e. absurd (not-ended e) };
     up_open = λ o. refl;
     down_open = λ o. sym (and-true (has_down (meaning stage).direction)) ∙ ap (λ (b : Bool). has_down (meaning stage).direction && not b) (sym (lawful stage).starts_open);
     up_over = λ o. absurd (both_ways false refl o);

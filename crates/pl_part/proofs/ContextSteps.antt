@@ -38,6 +38,7 @@ use Rattle.pl_flow.proofs.MakeLemmas.{makes-none}
 use Rattle.pl_flow.specs.Makes.{AreGood}
 use Rattle.pl_flow.proofs.StageFlows.{ups-good, downs-good}
 use Rattle.pl_flow.proofs.ItemLemmas.{failure-good, end-good}
+use Rattle.pl_part.specs.LaneStages.{LaneStage}
 use Rattle.pl_part.specs.ContextHolds.{HoldsWith, context_writes, context_came}
 use Rattle.pl_part.proofs.EventLists.{split-at, fits-within, made-le, made-more, length-end, goes-on-end, still-closed, ends-good}
 use Rattle.pl_part.proofs.ItemFits.{data-fits, data-may, flag-fits, within-limit}
@@ -49,6 +50,9 @@ open-over s e f = both_ways (is_over s) (ap is_over e) f
 
 open-failed : (s : Standing) → s ≡ standings.Open → has_failed s ≡ true → ⊥
 open-failed s e f = both_ways (has_failed s) (ap has_failed e) f
+
+never-ended : (cause : Cause) → standings.Failed cause ≡ standings.Ended → ⊥
+never-ended cause e = both_ways true (ap has_failed e) refl
 
 next-take : (n : ℕ) (events : List Event) → take (n + 1) events ≡ take (suc n) events
 next-take n events = let same : n + 1 ≡ suc n = omega arith in ap (λ k. take k events) same
@@ -174,6 +178,7 @@ module _ {S : Type 0} (world : World) (meaning : S → Meaning) (stands_after : 
               wired = h.wired;
               within = λ o. omega (arith, within);
               stood = λ o. stood;
+              staged = record { begun = λ m. (c.taken + 1, omega (arith, within), stood.stands); whole = λ e. absurd (open-over c.standing live (ap is_over e)) };
               up_open = λ o. (λ i. h.up_open live i && all_go_on-events ((meaning c.stage).up before x) i) ∙ and-true (has_up (meaning c.stage).direction);
               down_open = λ o. shut;
               up_over = λ o. absurd (open-over c.standing live o);
@@ -215,11 +220,11 @@ module _ {S : Type 0} (world : World) (meaning : S → Meaning) (stands_after : 
     last-few f made is few = let le = made-le f c.taken events in omega (arith, is, le, few)
 
     closing : (standing : Standing) → is_over standing ≡ true → (st : S) (t : ℕ) (fb : Bool) → t ≤ MAX_ITEMS → meaning st ≡ meaning c.stage → (fb ≡ true → has_failed standing ≡ true)
-        → (has_failed standing ≡ false → (c.taken ≡ length events) × (t ≡ c.taken + 1))
+        → (has_failed standing ≡ false → (c.taken ≡ length events) × (t ≡ c.taken + 1)) → LaneStage stands_after events standing st
         → (c.up.is_open ≡ true → IsGood world (record { lane = c.up.lane; number = c.up.made; item = last_item standing }))
         → (c.down.is_open ≡ true → IsGood world (record { lane = c.down.lane; number = c.down.made; item = last_item standing }))
         → (b a : OutputsView) (c' : ContextView S) → GivesLast standing (record c { stage = st; taken = t; failed_by_call = fb }) b c' a → Stepped b c' a
-    closing standing over st t fb small meant call whole up down b a c' k =
+    closing standing over st t fb small meant call whole staged up down b a c' k =
         let last = last_item standing ∷ [] in
         let z : ContextView S = record c { stage = st; taken = t; failed_by_call = fb; standing = standing; up = port_after last c.up; down = port_after last c.down } in
         let same : c' ≡ z = k.context in (
@@ -228,6 +233,7 @@ module _ {S : Type 0} (world : World) (meaning : S → Meaning) (stands_after : 
             wired = h.wired;
             within = λ o. absurd (open-over standing o over);
             stood = λ o. absurd (open-over standing o over);
+            staged = staged;
             up_open = λ o. absurd (open-over standing o over);
             down_open = λ o. absurd (open-over standing o over);
             up_over = λ o. closed-port standing c.up (port_after last c.up) (last_item standing) refl refl;
@@ -254,9 +260,17 @@ module _ {S : Type 0} (world : World) (meaning : S → Meaning) (stands_after : 
     not-called : (standing : Standing) → c.failed_by_call ≡ true → has_failed standing ≡ true
     not-called standing e = absurd (open-failed c.standing live (h.by_call e))
 
-    failing : (cause : Cause) → may_fail world cause ≡ true → (st : S) (t : ℕ) (fb : Bool) → t ≤ MAX_ITEMS → meaning st ≡ meaning c.stage → (b a : OutputsView) (c' : ContextView S)
+    -- nothing is said of one whose context fails out of memory
+    spent-staged : (st : S) → LaneStage stands_after events (standings.Failed Memory) st
+    spent-staged st = record { begun = λ m. absurd (m refl); whole = λ e. absurd (never-ended Memory e) }
+
+    -- a stage that has taken nothing more, where its context fails
+    still-staged : (cause : Cause) → LaneStage stands_after events (standings.Failed cause) c.stage
+    still-staged cause = record { begun = λ m. (c.taken, h.within live, (h.stood live).stands); whole = λ e. absurd (never-ended cause e) }
+
+    failing : (cause : Cause) → may_fail world cause ≡ true → (st : S) (t : ℕ) (fb : Bool) → t ≤ MAX_ITEMS → meaning st ≡ meaning c.stage → LaneStage stands_after events (standings.Failed cause) st → (b a : OutputsView) (c' : ContextView S)
         → GivesLast (standings.Failed cause) (record c { stage = st; taken = t; failed_by_call = fb }) b c' a → Stepped b c' a
-    failing cause may st t fb small meant b a c' k = closing (standings.Failed cause) refl st t fb small meant (λ e. refl) (λ f. absurd (both_ways true f refl))
+    failing cause may st t fb small meant staged b a c' k = closing (standings.Failed cause) refl st t fb small meant (λ e. refl) (λ f. absurd (both_ways true f refl)) staged
         (λ o. let made = (h.stood live).above o in let le = made-le (meaning c.stage).up c.taken events in
         failure-good world c.up.lane (up_of (meaning c.stage) events) c.up.made h.wired.up_kind (h.wired.up (up-has o)) (h.wired.few_up (up-has o)) cause may (omega (arith, made, le)))
         (λ o. let made = (h.stood live).below o in let le = made-le (meaning c.stage).down c.taken events in
@@ -267,6 +281,7 @@ module _ {S : Type 0} (world : World) (meaning : S → Meaning) (stands_after : 
     ending last b a c' k =
         let all : take c.taken events ≡ events = take_all c.taken events (omega (arith, last)) in
         closing standings.Ended refl c.stage (c.taken + 1) c.failed_by_call (taken-few item.End last) refl (not-called standings.Ended) (λ f. (last, refl))
+        (record { begun = λ m. (c.taken, h.within live, (h.stood live).stands); whole = λ e. subst (λ (xs : List Event). stands_after c.stage xs) all (h.stood live).stands })
         (λ o. end-good world c.up.lane (up_of (meaning c.stage) events) c.up.made h.wired.up_kind (h.wired.up (up-has o)) (h.wired.few_up (up-has o)) ((h.stood live).above o ∙ ap (λ zs. length (up_of (meaning c.stage) zs)) all))
         (λ o. end-good world c.down.lane (down_of (meaning c.stage) events) c.down.made h.wired.down_kind (h.wired.down (down-has o)) (h.wired.few_down (down-has o)) ((h.stood live).below o ∙ ap (λ zs. length (down_of (meaning c.stage) zs)) all))
         b a c' k
@@ -276,11 +291,11 @@ module _ {S : Type 0} (world : World) (meaning : S → Meaning) (stands_after : 
     pub taken-open : (i : Item) → Fits events c.taken i → MayCome world i → (answer : Took) (b a : OutputsView) (c' : ContextView S) → meaning c'.stage ≡ meaning c.stage
         → TakesItem meaning stands_after is_spent (counted Data c) i b answer c' a → Stepped b c' a
     taken-open (item.Event x) fits may took.Ran b a c' meant t = ran x fits b a c' meant t
-    taken-open (item.Event x) fits may (took.Failed cause) b a c' meant t = failing Memory refl c'.stage (c.taken + 1) c.failed_by_call (taken-few (item.Event x) fits) meant b a c' t.1.closes
+    taken-open (item.Event x) fits may (took.Failed cause) b a c' meant t = failing Memory refl c'.stage (c.taken + 1) c.failed_by_call (taken-few (item.Event x) fits) meant (spent-staged c'.stage) b a c' t.1.closes
     taken-open (item.Event x) fits may took.Ended b a c' meant t = absurd t
     taken-open (item.Event x) fits may took.Dropped b a c' meant t = absurd t
     taken-open item.End fits may answer b a c' meant t = ending fits b a c' t.1
-    taken-open (item.Fail cause) fits may answer b a c' meant t = failing cause may c.stage (c.taken + 1) c.failed_by_call (taken-few (item.Fail cause) fits) refl b a c' t.1
+    taken-open (item.Fail cause) fits may answer b a c' meant t = failing cause may c.stage (c.taken + 1) c.failed_by_call (taken-few (item.Fail cause) fits) refl (still-staged cause) b a c' t.1
     taken-open (item.Flag value) fits may answer b a c' meant t = absurd fits
 
     pub few-open : (i : Item) → Fits events c.taken i → MakesFew meaning stands_after c i
@@ -312,6 +327,7 @@ module _ {S : Type 0} (world : World) (meaning : S → Meaning) (stands_after : 
       wired = h.wired;
       within = λ o. absurd (open-over c.standing o over);
       stood = λ o. absurd (open-over c.standing o over);
+      staged = h.staged;
       up_open = λ o. absurd (open-over c.standing o over);
       down_open = λ o. absurd (open-over c.standing o over);
       up_over = h.up_over;
@@ -440,6 +456,6 @@ module _ {S : Type 0} (world : World) (meaning : S → Meaning) (stands_after : 
           (h, makes-none world (context_writes (meaning c.stage).direction c) (context_came (meaning c.stage).direction c) b b refl refl)
 
       by : (s : Standing) → c.standing ≡ s → Stepped b c' a
-      by standings.Open live = failing live cause may c.stage c.taken true h.few.taken refl b a c' (closes live)
+      by standings.Open live = failing live cause may c.stage c.taken true h.few.taken refl (still-staged live cause) b a c' (closes live)
       by standings.Ended is = same (over (ap is_over is))
       by (standings.Failed other) is = same (over (ap is_over is))

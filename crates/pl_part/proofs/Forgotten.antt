@@ -1,5 +1,5 @@
 -- What a part has handed over or forgotten makes it hold no less.
-use Rattle.std.proofs.Common.{◌≡◌, ◌⊎◌, ℕ, ◌+◌, ◌*◌, ◌^◌, ◌≤◌, ⊎_elim, Bool, true, false, List, [], ◌++◌, length, Option, Some, None, refl, sym, ap, subst, ◌∙◌, arith, length-append, append-nil, append_assoc}
+use Rattle.std.proofs.Common.{◌≡◌, ℕ, ◌+◌, ◌*◌, ◌≤◌, Bool, true, false, List, [], ◌++◌, length, Option, Some, None, refl, sym, ap, subst, ◌∙◌, arith, length-append, append-nil, append_assoc}
 use Rattle.std.specs.Prelude.{if◌then◌else◌}
 use Rattle.std.specs.Option.{option_map, option_map_or}
 use Rattle.std.proofs.lemmas.Bool.{both_ways}
@@ -12,12 +12,12 @@ use Rattle.pl_context.specs.Standings.{cause_of}
 use Rattle.pl_context.specs.TailViews.{TailView, handed_over}
 use Rattle.pl_head.specs.Buffers.{OutboundBufferView}
 use Rattle.pl_head.specs.HeadCalls.{HeadForgets}
-use Rattle.pl_head.specs.HeadStand.{HeadView, HasFewFlags, can_forget, gone_of}
+use Rattle.pl_head.specs.HeadStand.{HeadView, HasFewFlags, gone_of}
 use Rattle.pl_head.specs.InputStand.{InputView, InputStands}
 use Rattle.pl_head.specs.Transports.{TransportState}
 use Rattle.pl_head.specs.Writes.{out}
 use Rattle.pl_head.proofs.Forgetting.{out-behind, unflushed-behind}
-use Rattle.pl_part.specs.Forgetting.{PartForgets, part_can_forget, part_handed, path_handed, path_record}
+use Rattle.pl_part.specs.Forgetting.{PartForgets, part_handed, path_handed}
 use Rattle.pl_part.specs.HeadHolds.{HeadHolds, HeadTook}
 use Rattle.pl_part.specs.Parts.{ChannelPartView, PartHolds, part_gone}
 use Rattle.pl_part.specs.Paths.{PathPartView, PathHolds}
@@ -139,9 +139,6 @@ part-hands world meaning stands_after state p s = record { path = path-hands wor
 
 module _ {S : Type 0} (p v : PathPartView S) (is : v ≡ p) where
   module _ (t t' : TailView) (at : v.tail ≡ Some t) (goes : t' ≡ handed_over t) where
-    pub record-at : t.events ≡ path_record p
-    record-at = sym (ap (λ (o : Option TailView). option_map_or (λ (x : TailView). x.events) o []) at) ∙ ap (λ (x : PathPartView S). path_record x) is
-
     pub hands-over : record v { tail = Some t' } ≡ path_handed p
     hands-over =
         ap (λ (x : TailView). record v { tail = Some x }) goes
@@ -149,9 +146,6 @@ module _ {S : Type 0} (p v : PathPartView S) (is : v ≡ p) where
         ∙ ap (λ (x : PathPartView S). path_handed x) is
 
   module _ (at : v.tail ≡ None) where
-    pub no-record : [] ≡ path_record p
-    no-record = sym (ap (λ (o : Option TailView). option_map_or (λ (x : TailView). x.events) o []) at) ∙ ap (λ (x : PathPartView S). path_record x) is
-
     pub none-over : v ≡ path_handed p
     none-over = (λ i. record v { tail = (at ∙ sym (ap (λ (o : Option TailView). option_map handed_over o) at)) i }) ∙ ap (λ (x : PathPartView S). path_handed x) is
 
@@ -174,17 +168,6 @@ module _ {S T : Type 0} (p v : ChannelPartView S T) (is : v ≡ p) where
   forgets-or-not state h h' at world meaning stands_after false f kept s =
       subst (λ (x : ChannelPartView S T). PartHolds world meaning stands_after state x)
       (sym is ∙ (λ i. record v { head = at i }) ∙ ap (λ (x : HeadView T). record v { head = Some x }) (sym (kept refl))) s
-
-  pub can-is : (h : HeadView T) → v.head ≡ Some h → can_forget h ≡ part_can_forget p
-  can-is h at = sym (ap (λ (o : Option (HeadView T)). option_map_or (λ (x : HeadView T). can_forget x) o false) at) ∙ ap (λ (x : ChannelPartView S T). part_can_forget x) is
-
-  -- one that can forget could not count the bytes that are gone
-  pub due-is : (state : T → TransportState) (h : HeadView T) → v.head ≡ Some h → (can_forget h ≡ false) ⊎ (2 ^ 64 ≤ h.gone + length (state h.transport).accepted)
-      → (x : HeadView T) → p.head ≡ Some x → can_forget x ≡ true → 2 ^ 64 ≤ x.gone + length (state x.transport).accepted
-  due-is state h at due x own can =
-      let same : h ≡ x = same_Some h x (sym at ∙ ap (λ (q : ChannelPartView S T). q.head) is ∙ own) in
-      subst (λ (y : HeadView T). 2 ^ 64 ≤ y.gone + length (state y.transport).accepted) same
-      (⊎_elim (λ no. absurd (both_ways (can_forget x) (ap (λ (y : HeadView T). can_forget y) (sym same) ∙ no) can)) (λ full. full) due)
 
   pub gone-at : (h : HeadView T) → v.head ≡ Some h → h.gone ≡ (part_gone p).0
   gone-at h at = sym (ap (λ (o : Option (HeadView T)). (option_map_or (λ (x : HeadView T). gone_of x) o (0, false)).0) at) ∙ ap (λ (x : ChannelPartView S T). (part_gone x).0) is

@@ -28,6 +28,7 @@ use Rattle.pl_head.specs.InputStand.{InputView, InputStands, fed_plan, takes_bur
 use Rattle.pl_head.specs.HeadStand.{HeadView, ReadsStand, fed_head}
 use Rattle.pl_head.specs.Transports.{TransportState}
 use Rattle.pl_head.proofs.FedPlans.{fed_stands}
+use Rattle.pl_part.specs.LaneStages.{LaneStage}
 use Rattle.pl_part.specs.ContextHolds.{IsWired, IsPlanned, HoldsWith, ContextHolds}
 use Rattle.pl_part.specs.TailHolds.{MayFailFor, TailHolds, TailHoldsWith}
 use Rattle.pl_part.specs.HeadHolds.{HeadTook, HeadHolds}
@@ -78,6 +79,17 @@ module _ (world world' : World) (events rest : List Event) where
     same-taken standings.Ended is f = ap (λ (xs : List Event). take c.taken xs) (all is)
     same-taken (standings.Failed cause) is f = absurd (both_ways true f refl)
 
+    -- the first events of its lane are those
+    stage-grows : LaneStage stands_after (events ++ rest) c.standing c.stage
+    stage-grows = record {
+      begun = λ m.
+          let first = s.staged.begun m in
+          let few = first.1 in
+          let size = length-append events rest in
+          (first.0, omega (arith, few, size), subst (λ (xs : List Event). stands_after c.stage xs) (sym (take-append-le first.0 events rest few)) first.2);
+      whole = λ e. subst (λ (xs : List Event). stands_after c.stage xs) (sym (all e)) (s.staged.whole e);
+    }
+
     context-grows : IsWired world' m (events ++ rest) c.channel c.hop c.up.lane c.down.lane c.flags.lane → HoldsWith world' meaning stands_after m (events ++ rest) c
     context-grows wired =
         let size = length-append events rest in
@@ -86,6 +98,7 @@ module _ (world world' : World) (events rest : List Event) where
           wired = wired;
           within = λ o. let n = s.within o in omega (arith, n, size);
           stood = λ o. subst (λ (xs : List Event). StandsAfter meaning stands_after c xs) (sym (open-taken o)) (s.stood o);
+          staged = stage-grows;
           up_open = s.up_open;
           down_open = λ o. s.down_open o ∙ ap (λ (xs : List Event). has_down m.direction && not (m.ended xs)) (sym (open-taken o));
           up_over = s.up_over;

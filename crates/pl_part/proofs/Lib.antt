@@ -3,6 +3,7 @@ mod EventLists
 mod ItemFits
 mod PortMakes
 mod ContextSteps
+pub mod LaneStages
 mod ContextPlaces
 mod ContextCounts
 mod ContextStarts

@@ -14,6 +14,7 @@ use Rattle.pl_event.specs.Hops.{same_lane, data_lane}
 use Rattle.pl_event.specs.Worlds.{World, content_of}
 use Rattle.pl_flow.specs.Flows.{Point, point, nowhere}
 use Rattle.pl_event.specs.declared.limits.TheConstants.{MAX_ITEMS}
+use Rattle.pl_part.specs.LaneStages.{LaneStage}
 
 -- ---- the lanes of three ports, of which a stage has those upwards, or that downwards, or all
 
@@ -69,12 +70,13 @@ pub record HasFewItems {S : Type 0} (c : ContextView S) : Type 0 where
 module _ {S : Type 0} (world : World) (meaning : S → Meaning) (stands_after : S → List Event → Type 0) where
   -- While it is open it stands after the events that it took, and has given its lanes what its stage makes of them; so, with
   -- the end, has one that has ended, and one whose stage has quit downwards. Once it has ended or failed its data lanes are
-  -- closed, where it has failed whatever they were given.
+  -- closed, where it has failed whatever they were given; its stage stands as it did, unless that failure was out of memory.
   pub record HoldsWith (m : Meaning) (events : List Event) (c : ContextView S) : Type 0 where
     pub meant : meaning c.stage ≡ m
     pub wired : IsWired world m events c.channel c.hop c.up.lane c.down.lane c.flags.lane
     pub within : c.standing ≡ standings.Open → c.taken ≤ length events
     pub stood : c.standing ≡ standings.Open → StandsAfter meaning stands_after c (take c.taken events)
+    pub staged : LaneStage stands_after events c.standing c.stage
     pub up_open : c.standing ≡ standings.Open → c.up.is_open ≡ has_up m.direction
     pub down_open : c.standing ≡ standings.Open → c.down.is_open ≡ (has_down m.direction && not (m.ended (take c.taken events)))
     pub up_over : is_over c.standing ≡ true → c.up.is_open ≡ false

@@ -1,3 +1,4 @@
+pub mod LaneStages
 pub mod ContextHolds
 pub mod TailHolds
 pub mod Taking
@@ -12,3 +13,4 @@ pub mod Shares
 pub mod Told
 pub mod Growing
 pub mod Forgetting
+pub mod Keeping

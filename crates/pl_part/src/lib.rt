@@ -1,6 +1,7 @@
 //! Parts of channels: the nodes of a channel that are on one executor, where lanes may fail.
 #![tactic(auto)]
 
+mod kept;
 mod laws;
 mod new_contexts;
 mod parts;
@@ -8,5 +9,6 @@ mod paths;
 mod refusing;
 mod shares;
 
+pub use kept::KeptStage;
 pub use laws::head_law;
 pub use parts::ChannelPart;

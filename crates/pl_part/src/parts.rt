@@ -25,8 +25,10 @@ ghost use Rattle.pl_part.specs.PartCalls.{IsNextFor, Taken, Given, PartRefused};
 ghost use Rattle.pl_part.specs.Shares.{IsShareOf};
 ghost use Rattle.pl_part.specs.Told.{IsTold, TellsNext, part_untold};
 ghost use Rattle.pl_part.specs.Growing.{fed_part};
+ghost use Rattle.pl_part.specs.Keeping.{AreLaneStages, part_stages};
 ghost use Rattle.pl_part.specs.Forgetting.{PartForgets, part_can_forget, part_handed, path_record};
 
+use crate::kept::KeptStage;
 use crate::paths::PathPart;
 use crate::shares::take_where;
 use pl_context::{Outputs, Standing, Tail, Took};
@@ -194,7 +196,7 @@ impl<S: Stage, T: Transport> ChannelPart<S, T> {
     }
 
     /// The head makes a move: `next_read` or `write_once`. False where it made none, since none is enabled or no head is
-    /// among the nodes. Mostly none is, so that look is inlined, here and in those that call it.
+    /// among the nodes. Mostly none is, so that look is inlined, here and in a run's calls.
     #[inline(always)]
     pub fn move_head(&mut self, by: HeadMove, work: &mut Outputs) -> bool
         requires holds { (world : World) × PartHolds world S.meaning S.stands_after T.state self.old }
@@ -303,6 +305,30 @@ impl<S: Stage, T: Transport> ChannelPart<S, T> {
         ensures head { result.1 ≡ self.head }
     {
         (self.path.into_tail(), self.head)
+    }
+
+    /// Gives the part up for its stages (`into_stages`), and the ends (`into_ends`). An `Err` is out of memory.
+    pub fn into_nodes(
+        self,
+        alloc: Global,
+    ) -> Result<(Vec<Option<KeptStage<S>>>, Option<Tail>, Option<Head<T>>), AllocError>
+        ensures stages { IfOk result (λ nodes. nodes.0.items ≡ part_stages self) }
+        ensures tail { IfOk result (λ nodes. nodes.1 ≡ self.path.tail) }
+        ensures head { IfOk result (λ nodes. nodes.2 ≡ self.head) }
+    {
+        let (stages, tail) = self.path.into_nodes(alloc)?;
+        Ok((stages, tail, self.head))
+    }
+
+    /// Gives the part up for its stages, each with how its context stood: by hop, none at the tail's nor where the context is
+    /// elsewhere. An `Err` is out of memory.
+    pub fn into_stages(self, alloc: Global) -> Result<Vec<Option<KeptStage<S>>>, AllocError>
+        ensures stages { IfOk result (λ stages. stages.items ≡ part_stages self) }
+        // Each stands after the first events of its lane, and where its context has ended after all.
+        ensures lanes { IfOk result (λ stages. (world : World) → PartHolds world S.meaning S.stands_after T.state self → AreLaneStages world S.stands_after self.path.channel stages.items) }
+    {
+        let (stages, _, _) = self.into_nodes(alloc)?;
+        Ok(stages)
     }
 
     /// The tail, where it is among the nodes.

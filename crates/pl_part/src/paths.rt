@@ -21,7 +21,9 @@ ghost use Rattle.pl_part.specs.PathCalls.{IsNextOnPath, PathTaken, PathRefused};
 ghost use Rattle.pl_part.specs.Paths.{PathHolds, PathTakes, PathRefuses, SamePath, context_at, writer_hop, enters_path, path_over, path_standing, is_slot_over, path_taken, path_lanes, path_writes, path_writes_at, path_came};
 ghost use Rattle.pl_part.specs.Forgetting.{path_record, path_handed};
 ghost use Rattle.pl_part.specs.Shares.{IsPathShare, executor_of};
+ghost use Rattle.pl_part.specs.Keeping.{kept_stages};
 
+use crate::kept::{KeptStage, stages_of};
 use crate::new_contexts::add_contexts;
 use crate::refusing::refuse_at;
 use crate::shares::{take_contexts, take_where};
@@ -158,6 +160,18 @@ impl<S: Stage> PathPart<S> {
         ensures { result ≡ self.tail }
     {
         self.tail
+    }
+
+    /// Gives the nodes up for the stages, by hop, and the tail. No stage is at the tail's hop, nor where the context is elsewhere.
+    pub(crate) fn into_nodes(
+        self,
+        alloc: Global,
+    ) -> Result<(Vec<Option<KeptStage<S>>>, Option<Tail>), AllocError>
+        ensures stages { IfOk result (λ nodes. nodes.0.items ≡ kept_stages self.contexts) }
+        ensures tail { IfOk result (λ nodes. nodes.1 ≡ self.tail) }
+    {
+        let stages = stages_of(alloc, self.contexts)?;
+        Ok((stages, self.tail))
     }
 
     /// The node that the envelope's lane enters takes it, the next item of that lane. It answers what the node answers.

@@ -1,8 +1,10 @@
 //! A part out of which the shares of executors are taken.
 
 use crate::relays::{NO_FAULTS, Relay, sample_part};
+use pl_context::Standing;
+use pl_event::{Direction, Stage};
 use pl_head::MemoryTransport;
-use pl_part::ChannelPart;
+use pl_part::{ChannelPart, KeptStage};
 use std::process::Abort;
 use std::test::Fail;
 
@@ -52,5 +54,36 @@ fn share_without_memory(rt: HostRuntime) -> Result<(), Fail> {
         Ok(share) => assert_on(&rt, 2, &share),
         Err(_) => assert_on(&rt, 2, &part.take_share(alloc, 2)?),
     }
+    Ok(())
+}
+
+/// Stages are given back by hop, with these directions, and their contexts stood open.
+fn assert_stages(
+    rt: &impl Abort,
+    stages: &[Option<KeptStage<Relay>>],
+    directions: &[Option<Direction>],
+) {
+    assert!(rt; stages.len() == directions.len());
+    for (slot, want) in stages.iter().zip(directions) {
+        match slot {
+            Some(kept) => {
+                assert!(rt; kept.standing == Standing::Open);
+                assert!(rt; Some(kept.stage.direction()) == *want);
+            }
+            None => assert!(rt; want.is_none()),
+        }
+    }
+}
+
+/// Each part gives its own stages back. The tail's hop, the third, has none.
+#[test]
+fn stages_by_hop(rt: HostRuntime) -> Result<(), Fail> {
+    let alloc = rt.alloc();
+    let mut rest = sample_part(alloc, NO_FAULTS)?;
+    let share = rest.take_share(alloc, 2)?;
+    let first = [Some(Direction::Inbound), None, None, None];
+    assert_stages(&rt, share.into_stages(alloc)?.as_slice(), &first);
+    let others = [None, Some(Direction::Turn), None, Some(Direction::Outbound)];
+    assert_stages(&rt, rest.into_stages(alloc)?.as_slice(), &others);
     Ok(())
 }

@@ -8,6 +8,7 @@ use Rattle.pl_event.specs.declared.events.Event.TheVariants.{Active, ReadComplet
 use Rattle.pl_event.specs.Worlds.{World, carrying}
 use Rattle.pl_queue.specs.declared.views.SenderView.{SenderView}
 use Rattle.pl_queue.specs.declared.views.TakerView.{TakerView}
+use Rattle.pl_queue.specs.Ends.{MailboxEnds}
 use Rattle.pl_queue.specs.Views.{sent_of, lanes_of_send_counts, lanes_of_counts}
 
 -- so many events: a channel becomes active, and its bursts are empty
@@ -37,3 +38,11 @@ taking_lanes t = lanes_of_counts t.counts
 -- a sender with one lane, of which nothing was sent
 abbrev pub IsFresh : Lane → SenderView → Type 0
 IsFresh l s = (sent_of l s.send_counts ≡ Some (0, false)) × (sending_lanes s ≡ l ∷ [])
+
+-- an end of a mailbox that is still one, on the lanes that it had
+module _ {M S T : Type 0} (ends : MailboxEnds M S T) where
+  abbrev pub StillSends : M → S → S → Type 0
+  StillSends m before after = ends.is_sender m after × (sending_lanes (ends.sends_of after) ≡ sending_lanes (ends.sends_of before))
+
+  abbrev pub StillTakes : M → T → T → Type 0
+  StillTakes m before after = ends.is_taker m after × (taking_lanes (ends.takes_of after) ≡ taking_lanes (ends.takes_of before))

@@ -4,6 +4,7 @@ pub mod Kept
 pub mod MoveSteps
 pub mod NetStarts
 pub mod NetEnds
+pub mod LaneStages
 pub mod Hindered
 pub mod Reached
 pub mod ReportLists

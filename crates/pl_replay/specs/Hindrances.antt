@@ -1,20 +1,23 @@
 -- Why a move is not enabled (docs/FORMATS.md, "Moves").
-use Rattle.std.specs.Prelude.{◌≡◌, ◌<◌, ℕ, List, [], length, slice_get, Option, Some, None, IsSome, true, false}
+use Rattle.std.specs.Prelude.{◌≡◌, ◌<◌, ℕ, List, [], length, slice_get, Option, Some, None, IfSome, IsSome, is_none, Bool, true, false}
+use Rattle.pl_event.specs.declared.events.Event.{Event}
+use Rattle.pl_event.specs.Meaning.{Meaning}
+use Rattle.pl_context.specs.WaitingViews.{Entry}
 use Rattle.pl_head.specs.HeadStand.{HeadView}
+use Rattle.pl_head.specs.Transports.{TransportState}
 use Rattle.pl_net.specs.Nets.{StationsView, queue_at}
+use Rattle.pl_net.specs.Stations.{stations_view}
+use Rattle.pl_net.specs.declared.stations.Stations.{Stations}
 use Rattle.pl_part.specs.Parts.{ChannelPartView}
 use Rattle.pl_world.specs.declared.moves.Move.{Move}
-use Rattle.pl_world.specs.declared.moves.Move.TheVariants.{Read, Task, Hand, Out}
+use Rattle.pl_world.specs.Movers.{mover_of}
+use Rattle.pl_world.specs.Plans.{Plan}
+use Rattle.pl_replay.specs.MoveModel.{is_there}
+use Rattle.pl_replay.specs.Moves.{IsEnabled}
+use Rattle.pl_replay.specs.NetStand.{NetStands}
 use Rattle.pl_replay.specs.declared.channels.Channels.{Channels}
 use Rattle.pl_replay.specs.declared.nets.hindrances.Hindrance.{Hindrance}
 use Rattle.pl_replay.specs.declared.nets.hindrances.Hindrance.TheVariants.{NoReadStep, BurstHeld, EmptyQueue, EmptyBacklog, FullQueues, NothingFlushed, HeadFailed}
-
--- the channel or the executor that makes a move
-abbrev pub mover_of : Move → ℕ
-mover_of (Read c) = c
-mover_of (Task x) = x
-mover_of (Hand x) = x
-mover_of (Out c) = c
 
 module _ {S T : Type 0} where
   -- the head of a channel is so
@@ -30,3 +33,11 @@ module _ {S T : Type 0} where
   Hinders FullQueues move c = 0 < length (c.backlogs (mover_of move))
   Hinders NothingFlushed move c = OfHead (λ h. h.failure ≡ None) c.nodes.parts.items (mover_of move)
   Hinders HeadFailed move c = OfHead (λ h. IsSome h.failure) c.nodes.parts.items (mover_of move)
+
+module _ {S T : Type 0} (meaning : S → Meaning) (stands_after : S → List Event → Type 0) (is_spent : S → Bool) (state : T → TransportState) (may_refuse : T → ℕ → Type 0) where
+  -- What is told of a move (FORMATS): nothing of one that is there exactly where it is enabled, and else a reason that is so.
+  pub record TellsHindrance (move : Move) (net : Stations (Channels S T)) (told : Option Hindrance) : Type 0 where
+    pub enabled : (plan : Plan) (backlogs : ℕ → List (Entry Unit)) → NetStands meaning stands_after state plan backlogs net → is_there plan move ≡ true
+        → IsEnabled meaning stands_after is_spent state may_refuse plan.capacity move (stations_view net backlogs) (is_none told)
+    pub reason : IfSome told (λ why. (plan : Plan) (backlogs : ℕ → List (Entry Unit)) → NetStands meaning stands_after state plan backlogs net
+        → Hinders why move (stations_view net backlogs))

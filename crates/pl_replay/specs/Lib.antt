@@ -1,6 +1,7 @@
 pub mod Views
 pub mod Idle
 pub mod Starts
+pub mod Stages
 pub mod MoveModel
 pub mod Moves
 pub mod NetStand

@@ -7,6 +7,7 @@ mod idle;
 mod nets;
 mod replaying;
 mod reporting;
+mod stages;
 
 pub use account_laws::account_law;
 pub use channels::Channels;

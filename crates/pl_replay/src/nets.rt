@@ -1,10 +1,11 @@
 //! The channels and executors of a replay, and the moves that they make.
 
-ghost use Rattle.std.specs.Prelude.{◌≡◌, ◌≤◌, All, ℕ, List, length, Ok, Err, false, true, IfOk, IfErr, MatchOption, slice_get, Some};
+ghost use Rattle.std.specs.Prelude.{◌≡◌, ◌≤◌, All, ℕ, List, length, Ok, Err, false, true, IfOk, IfErr, MatchOption, map, slice_get, Some};
 ghost use Rattle.pl_context.specs.WaitingViews.{Entry};
 ghost use Rattle.pl_context.specs.TailViews.{TailView};
 ghost use Rattle.pl_net.specs.Stations.{stations_view, IsUnmoved, IsUnmovedButRoom};
 ghost use Rattle.pl_net.specs.Nets.{LacksMemory};
+ghost use Rattle.pl_part.specs.Keeping.{part_stages};
 ghost use Rattle.pl_part.specs.Parts.{ChannelPartView};
 ghost use Rattle.pl_world.specs.declared.faults.ReplayFault.TheVariants as fault;
 ghost use Rattle.pl_world.specs.declared.limits.TheConstants.{MAX_CAPACITY};
@@ -16,6 +17,7 @@ ghost use Rattle.std.specs.List.{AllZip};
 ghost use Rattle.pl_world.specs.Reports.{AllKeepToPlan, AllReportPlan};
 ghost use Rattle.pl_replay.specs.Reported.{AreDrained, HasEnds, IsPartReport};
 ghost use Rattle.pl_replay.specs.MoveModel.{is_there, is_hand};
+ghost use Rattle.pl_replay.specs.Stages.{HasLaneStages};
 
 mod hindrances;
 mod looking;
@@ -24,12 +26,13 @@ mod watching;
 use crate::channels::Channels;
 use crate::idle::idle_stations;
 use crate::reporting::{are_drained, into_reports, reports_of};
+use crate::stages::stages_of;
 pub use hindrances::Hindrance;
 use pl_channel::{lane_count, whole_parts};
 use pl_event::Stage;
 use pl_head::Transport;
 use pl_net::{NoWatch, Stations};
-use pl_part::ChannelPart;
+use pl_part::{ChannelPart, KeptStage};
 use pl_world::{Move, ReplayFault, Report, World};
 use std::alloc::Global;
 use std::marker::Model;
@@ -102,18 +105,6 @@ impl<S: Stage, T: Transport> Net<S, T> {
         self.apply_watched(step, &mut NoWatch)
     }
 
-    /// Whether the channel or the executor of a move is there.
-    fn is_there(&self, step: Move) -> bool
-        ensures { (plan : Plan) (backlogs : ℕ → List (Entry Unit)) → NetStands S.meaning S.stands_after T.state plan backlogs self.now → result ≡ is_there plan step }
-    {
-        match step {
-            Move::Read(channel) | Move::Out(channel) => (channel as usize) < self.parts().len(),
-            Move::Task(executor) | Move::Hand(executor) => {
-                (executor as usize) < self.stations.executors()
-            }
-        }
-    }
-
     /// Whether every channel is drained.
     pub fn drained(&self) -> bool
         ensures { AreDrained T.state self.now.nodes.parts.items result }
@@ -148,6 +139,20 @@ impl<S: Stage, T: Transport> Net<S, T> {
         let Channels { parts } = stations.into_nodes();
         let channels = into_reports(alloc, parts)?;
         Ok(Report { channels })
+    }
+
+    /// Gives the net up for its stages, each with how its context stood: by channel and by hop, none at the tail's. An `Err` is
+    /// `Memory`.
+    pub fn into_stages(self) -> Result<Vec<Vec<Option<KeptStage<S>>>>, ReplayFault>
+        ensures stages { IfOk result (λ channels. map (λ stages. stages.items) channels.items ≡ map (λ part. part_stages part) self.nodes.parts.items) }
+        // Each stands after the first events of the lane that its plan has at its hop, and where its context has ended after all.
+        ensures lanes { IfOk result (λ channels. (plan : Plan) (backlogs : ℕ → List (Entry Unit)) → NetStands S.meaning S.stands_after T.state plan backlogs self
+            → AllZip (HasLaneStages S.stands_after) plan.channels (map (λ stages. stages.items) channels.items)) }
+        ensures memory { IfErr result (λ e. e ≡ fault.Memory) }
+    {
+        let Net { alloc, stations } = self;
+        let Channels { parts } = stations.into_nodes();
+        Ok(stages_of(alloc, parts)?)
     }
 
     /// Its channels and executors, as they are.

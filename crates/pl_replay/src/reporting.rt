@@ -94,7 +94,7 @@ fn standing_of<S: Stage, T: Transport>(part: &ChannelPart<S, T>) -> Stands
 }
 
 /// The tail and the head of a part's channel.
-fn ends<S: Stage, T: Transport>(part: &ChannelPart<S, T>) -> (&Tail, &Head<T>)
+pub(crate) fn ends<S: Stage, T: Transport>(part: &ChannelPart<S, T>) -> (&Tail, &Head<T>)
     requires { HasEnds part.now }
     ensures tail { part.now.path.tail ≡ Some result.0.now }
     ensures head { part.now.head ≡ Some result.1.now }

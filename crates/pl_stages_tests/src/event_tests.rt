@@ -69,6 +69,11 @@ fn sequences(rt: HostRuntime) -> Result<(), Fail> {
 
     let events = Sequence::from_vec(events.into_vec()).into_vec();
     assert_events(&rt, events.as_slice(), &told);
+
+    let copy = Sequence::from_slice(rt.alloc(), &[7_u32, 8])?;
+    assert_eq!(rt; copy.as_slice(), [7, 8].as_slice());
+    let none: &[u32] = &[];
+    assert!(rt; Sequence::from_slice(rt.alloc(), none)?.is_empty());
     Ok(())
 }
 

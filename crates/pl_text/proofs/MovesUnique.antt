@@ -6,7 +6,8 @@ use Rattle.std.proofs.lemmas.List.{append-nil}
 use Rattle.pl_world.specs.declared.moves.Move.{Move}
 use Rattle.pl_world.specs.declared.moves.Move.TheVariants.{Read, Task, Hand, Out}
 use Rattle.pl_text.specs.declared.moves_text.terms.Term.{Term}
-use Rattle.pl_text.specs.MovesTexts.{AreInRange, IsTermWithin, Says, count_text, move_text, moves_of_terms, number_of, moves_said, term_text}
+use Rattle.pl_world.specs.Movers.{mover_of}
+use Rattle.pl_text.specs.MovesTexts.{AreInRange, IsTermWithin, Says, count_text, move_text, moves_of_terms, moves_said, term_text}
 use Rattle.pl_text.proofs.MovesNumbers.{decimal_lacks_x, lacks_seam}
 
 -- no element is an x
@@ -42,7 +43,7 @@ numbers_once m n (Some j) (Some k) p q e =
     (decimal_injective m n (omega (arith, p.number_fits)) (omega (arith, q.number_fits)) s.0, ap (λ (x : ℕ). Some x) (decimal_injective j k (omega (arith, p.count_fits)) (omega (arith, q.count_fits)) s.1))
 
 -- a text says at most one term
-step_once : (s t : Move) (a b : Option ℕ) → AreInRange (number_of s) a → AreInRange (number_of t) b → move_text s ++ count_text a ≡ move_text t ++ count_text b → (s ≡ t) × (a ≡ b)
+step_once : (s t : Move) (a b : Option ℕ) → AreInRange (mover_of s) a → AreInRange (mover_of t) b → move_text s ++ count_text a ≡ move_text t ++ count_text b → (s ≡ t) × (a ≡ b)
 step_once (Read m) (Read n) a b p q e =
     let once = numbers_once m n a b p q (tail_is 82 82 _ _ e) in (ap (λ (x : ℕ). Read x) once.0, once.1)
 step_once (Task m) (Task n) a b p q e =

@@ -3,6 +3,7 @@ use Rattle.std.specs.Prelude.{◌≡◌, ℕ, ◌≤◌, ◌<◌, ◌==◌, List
 use Rattle.std.specs.List.{slice_split, flat_map, AllByRecursion}
 use Rattle.pl_world.specs.declared.moves.Move.{Move}
 use Rattle.pl_world.specs.declared.moves.Move.TheVariants.{Read, Task, Hand, Out}
+use Rattle.pl_world.specs.Movers.{mover_of}
 use Rattle.pl_text.specs.declared.faults.MovesFault.{MovesFault}
 use Rattle.pl_text.specs.declared.faults.MovesFault.TheVariants as fault
 use Rattle.pl_text.specs.declared.moves_text.terms.Term.{Term}
@@ -33,16 +34,9 @@ abbrev pub terms_text : List Move → List ℕ
 terms_text [] = []
 terms_text (step ∷ steps) = move_text step ++ flat_map next_word steps
 
--- the number of the channel or of the executor
-abbrev pub number_of : Move → ℕ
-number_of (Read n) = n
-number_of (Task n) = n
-number_of (Hand n) = n
-number_of (Out n) = n
-
 -- a term can say it
 abbrev pub IsSayable : Move → Type 0
-IsSayable step = number_of step ≤ MAX_NUMBER
+IsSayable step = mover_of step ≤ MAX_NUMBER
 
 -- a number and a count within their limits
 pub record AreInRange (number : ℕ) (count : Option ℕ) : Type 0 where
@@ -50,7 +44,7 @@ pub record AreInRange (number : ℕ) (count : Option ℕ) : Type 0 where
   pub count_fits : IfSome count (λ n. (1 ≤ n) × (n ≤ MAX_COUNT))
 
 abbrev pub IsTermWithin : Term → Type 0
-IsTermWithin w = AreInRange (number_of w.step) w.count
+IsTermWithin w = AreInRange (mover_of w.step) w.count
 
 -- the texts between single spaces, and none of the empty text
 abbrev pub between_spaces : List ℕ → List (List ℕ)

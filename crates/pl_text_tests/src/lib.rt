@@ -13,4 +13,4 @@ mod session_text;
 #[cfg(test)]
 mod session_versions;
 
-pub use ping::{PING_REPORT, PING_SESSION};
+pub use ping::{DECODER_APART, PING_REPORT, PING_SESSION};

@@ -61,7 +61,7 @@ pub struct Executor<'a, W: Named, M: Mailbox<W> + Drop, N: OwnNodes<W> + Drop> {
     is_closed: bool,
     /// The number of the next turn; 2^64 - 1 stays.
     turns: u64,
-    /// The channel that is asked next; where there is none of this number, the first.
+    /// Among the channels whose heads are here, the position of the one that is asked next; past the last, the first.
     next: usize,
     /// How many were handed over since others were let run.
     handed: u32,

@@ -29,6 +29,7 @@ use Rattle.pl_threads.proofs.RunLemmas.{runs-start}
 use Rattle.pl_threads_tests.specs.declared.nodes.Node.{Node}
 use Rattle.pl_threads_tests.specs.declared.nodes.Outlet.{Outlet}
 use Rattle.pl_threads_tests.specs.declared.places.Own.{Own}
+use Rattle.pl_threads_tests.specs.declared.places.Place.{Place}
 use Rattle.pl_threads_tests.specs.declared.places.Places.{Places}
 use Rattle.pl_threads_tests.specs.declared.places.Way.{Way}
 use Rattle.pl_threads_tests.specs.Nodes.{IsFresh, NodeStands, came, lane_to, makes, node_view, outlets_of, target_of, writes}
@@ -188,24 +189,24 @@ way-is ends mailbox name inbox lanes way same-mailbox same-name is own = record 
 }
 
 -- what each executor has of the inboxes of three
-pub opened-are-places : {W M S T : Type 0} (ends : MailboxEnds M S T) {inboxes : List (Inbox W M S T)} {a b c : Inbox W M S T} {own-a own-b own-c : Own W M S T} {a0 a1 a2 b0 b1 b2 c0 c1 c2 : Way W M S T}
+pub opened-are-places : {W M S T : Type 0} (ends : MailboxEnds M S T) {inboxes : List (Inbox W M S T)} {a b c : Inbox W M S T} {own-a own-b own-c : Own W M S T} {a0 a1 a2 b0 b1 b2 c0 c1 c2 : Way W M S T} {p q r : Place W M S T}
     → inboxes ≡ a ∷ b ∷ c ∷ [] → IsOpened ends 0 a own-a a0 a1 a2 → IsOpened ends 1 b own-b b0 b1 b2 → IsOpened ends 2 c own-c c0 c1 c2
-    → ArePlaces ends inboxes (record {
-      first = record { own = own-a; first = a1; second = b1; third = c0 };
-      second = record { own = own-b; first = a2; second = b2; third = c1 };
-      third = record { own = own-c; first = a0; second = b0; third = c2 };
-    })
-opened-are-places {W = W} {M = M} {S = S} {T = T} ends {a = a} {b = b} {c = c} {own-a = own-a} {own-b = own-b} {own-c = own-c} {a0 = a0} {a1 = a1} {a2 = a2} {b0 = b0} {b1 = b1} {b2 = b2} {c0 = c0} {c1 = c1} {c2 = c2} are first second third =
+    → p ≡ record { own = own-a; first = a1; second = b1; third = c0 } → q ≡ record { own = own-b; first = a2; second = b2; third = c1 } → r ≡ record { own = own-c; first = a0; second = b0; third = c2 }
+    → ArePlaces ends inboxes (record { first = p; second = q; third = r })
+opened-are-places {W = W} {M = M} {S = S} {T = T} ends {inboxes = inboxes} {a = a} {b = b} {c = c} {own-a = own-a} {own-b = own-b} {own-c = own-c} {a0 = a0} {a1 = a1} {a2 = a2} {b0 = b0} {b1 = b1} {b2 = b2} {c0 = c0} {c1 = c1} {c2 = c2} {p = p} {q = q} {r = r} are first second third p-is q-is r-is =
     let places : Places W M S T = record {
       first = record { own = own-a; first = a1; second = b1; third = c0 };
       second = record { own = own-b; first = a2; second = b2; third = c1 };
       third = record { own = own-c; first = a0; second = b0; third = c2 };
     } in
-    subst (λ (l : List (Inbox W M S T)). ArePlaces ends l places) (sym are) (record {
+    let found : Places W M S T = record { first = p; second = q; third = r } in
+    let same : found ≡ places = (λ i. record { first = p-is i; second = q-is i; third = r-is i }) in
+    subst (λ (s : Places W M S T). ArePlaces ends inboxes s) (sym same)
+    (subst (λ (l : List (Inbox W M S T)). ArePlaces ends l places) (sym are) (record {
       of_first = record { three = refl; there = omega arith; own = λ i at. owns 0 own-a a i at first.own; first = λ i at. way [] a1 a i at first.none; second = λ i at. way [] b1 b i at second.none; third = λ i at. way (lane_to 2 ∷ []) c0 c i at third.flags };
       of_second = record { three = refl; there = omega arith; own = λ i at. owns 1 own-b b i at second.own; first = λ i at. way [] a2 a i at first.never; second = λ i at. way [] b2 b i at second.never; third = λ i at. way [] c1 c i at third.none };
       of_third = record { three = refl; there = omega arith; own = λ i at. owns 2 own-c c i at third.own; first = λ i at. way (lane_to 0 ∷ []) a0 a i at first.flags; second = λ i at. way (lane_to 1 ∷ []) b0 b i at second.flags; third = λ i at. way [] c2 c i at third.never };
-    })
+    }))
   where
     owns : (executor : ℕ) (own : Own W M S T) (x y : Inbox W M S T) → Some x ≡ Some y → IsOwn ends x executor own → IsOwn ends y executor own
     owns executor own x y at is = subst (λ (j : Inbox W M S T). IsOwn ends j executor own) (same_Some x y at) is

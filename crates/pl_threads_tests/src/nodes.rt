@@ -55,11 +55,11 @@ pub(crate) struct Node {
     pub(crate) first: Outlet,
     pub(crate) second: Outlet,
     /// Where a flag comes one is made, and no read step is enabled.
-    pub(crate) forwards: bool,
+    forwards: bool,
     /// How many came.
     pub(crate) taken: u64,
     /// How many are to come before it has ended.
-    pub(crate) expected: u64,
+    expected: u64,
     /// How often a flag was refused.
     pub(crate) refusals: u32,
 }
@@ -112,6 +112,14 @@ impl Node {
             expected,
             refusals: 0,
         }
+    }
+
+    /// The same nodes, but each flag that comes makes one, and no read step does.
+    pub(crate) fn forwarding(mut self) -> Node
+        ensures { result ≡ record self { forwards = true } }
+    {
+        self.forwards = true;
+        self
     }
 
     /// Makes the next flag, for the first outlet or else for the second. False where none is left to make.

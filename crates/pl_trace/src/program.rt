@@ -82,11 +82,11 @@ fn serve<F: Files + Alloc, R: Read, W: Write, E: Write>(
     match request {
         Request::Moves(source) => {
             let moves = moves_of(rt, alloc, source)?;
-            tell_moves(alloc, reader, moves.as_slice(), out)
+            tell_moves(alloc, read_shown(alloc, reader, moves)?, out)
         }
         Request::Picture(source) => {
             let moves = moves_of(rt, alloc, source)?;
-            draw(alloc, reader, moves.as_slice(), out)
+            draw(alloc, read_shown(alloc, reader, moves)?, out)
         }
         Request::Schedule(order) => make_schedule(alloc, reader, order, out, err),
         Request::Check => tell_check(alloc, reader, out, err),
@@ -125,19 +125,23 @@ fn moves_in(alloc: Global, text: &str) -> Result<Vec<Move>, Refusal> {
     Err(Refusal::at(Failure::Moves(fault), place))
 }
 
-/// Writes what moves do as text.
-fn tell_moves<R: Read, W: Write>(
-    alloc: Global,
-    reader: &mut R,
-    moves: &[Move],
-    out: &mut W,
-) -> Result<bool, Refusal> {
+/// A session, the names of its handlers, and the moves to be shown in it.
+type Shown = (Session, Names, Vec<Move>);
+
+/// Reads the session of moves, each of which names what it has.
+fn read_shown<R: Read>(alloc: Global, reader: &mut R, moves: Vec<Move>) -> Result<Shown, Refusal> {
     let (session, names) = read_session_with_names(alloc, reader)?;
-    all_there(alloc, &session, moves)?;
+    all_there(alloc, &session, moves.as_slice())?;
+    Ok((session, names, moves))
+}
+
+/// Writes what moves do as text.
+fn tell_moves<W: Write>(alloc: Global, shown: Shown, out: &mut W) -> Result<bool, Refusal> {
+    let (session, names, moves) = shown;
     let mut tracer = Tracer::new(alloc, session)?;
     let mut out = BufWriter::new(alloc, out)?;
     let mut text = Vec::new(alloc);
-    for step in moves {
+    for step in &moves {
         let told = tracer.make(*step)?;
         add_lines(&mut text, &names, told)?;
         out.write_all(text.as_slice())?;
@@ -157,21 +161,15 @@ fn add_lines(text: &mut Vec<u8>, names: &Names, told: Told) -> io::Result<()> {
 }
 
 /// Writes what moves do as a picture.
-fn draw<R: Read, W: Write>(
-    alloc: Global,
-    reader: &mut R,
-    moves: &[Move],
-    out: &mut W,
-) -> Result<bool, Refusal> {
-    let (session, names) = read_session_with_names(alloc, reader)?;
-    all_there(alloc, &session, moves)?;
+fn draw<W: Write>(alloc: Global, shown: Shown, out: &mut W) -> Result<bool, Refusal> {
+    let (session, names, moves) = shown;
     let rows = Rows::new(alloc, &session, &names)?;
     let mut picture = Picture::new(alloc, &names, rows, moves.len())?;
     let mut tracer = Tracer::new(alloc, session)?;
     let mut out = BufWriter::new(alloc, out)?;
     let mut text = Vec::new(alloc);
     picture.add_frame(&mut text)?;
-    for step in moves {
+    for step in &moves {
         let told = tracer.make(*step)?;
         add_drawn(&mut text, &mut picture, told)?;
         out.write_all(text.as_slice())?;

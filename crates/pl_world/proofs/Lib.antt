@@ -6,3 +6,4 @@ pub mod PathLanes
 pub mod SettledWrites
 pub mod WorldLimits
 pub mod SmallLanes
+pub mod MemoryWorlds

@@ -2,7 +2,7 @@
 use Rattle.std.proofs.Common.{◌≡◌, ℕ, ◌+◌, ◌*◌, ◌<◌, ◌≤◌, ◌==◌, List, [], ◌∷◌, ◌++◌, length, take, map, get_or, sum_by, true, false, nat_lt, nat_le, Option, Some, None, zero, suc, ap, ap₂, sym, ◌∙◌, ◌&&◌, refl, arith, append-nil}
 use Rattle.std.specs.Prelude.{slice_get, All}
 use Rattle.std.specs.List.{list_all}
-use Rattle.std.proofs.lemmas.Bool.{and_parts, leb-true, ltb-true, lt-ltb, le-ltb}
+use Rattle.std.proofs.lemmas.Bool.{and_parts, eqb-true, leb-true, ltb-true, lt-ltb, le-ltb}
 use Rattle.std.proofs.lemmas.Option.{slice_get_within, get_or_from_slice_get}
 use Rattle.std.proofs.lemmas.List.Elements.{All-nil, All-cons, All-head, All-tail, All-map}
 use Rattle.std.proofs.lemmas.List.Folds.{list_all_at, list_all_more}
@@ -106,6 +106,8 @@ module _ {S T : Type 0} where
 pub record Limits {S T : Type 0} (pipelines : List (PlacedView S)) (inputs : Inputs) (transports : List T) (executors : ℕ) : Type 0 where
   pub executors_at_most : executors ≤ MAX_EXECUTORS
   pub channels_at_most : length pipelines ≤ MAX_CHANNELS
+  pub inputs_for_each : length pipelines ≡ length inputs
+  pub transports_for_each : length pipelines ≡ length transports
   pub placed : list_all (is_placed executors) pipelines ≡ true
   pub fit : list_all input_fits inputs ≡ true
 
@@ -125,6 +127,8 @@ within_parts pipelines inputs transports executors within =
     record {
       executors_at_most = leb-true executors MAX_EXECUTORS one.0;
       channels_at_most = leb-true (length pipelines) MAX_CHANNELS one.1;
+      inputs_for_each = eqb-true (length pipelines) (length inputs) two.1;
+      transports_for_each = eqb-true (length pipelines) (length transports) three.1;
       placed = four.1;
       fit = five.1;
     }

@@ -1,4 +1,5 @@
 pub mod Limits
+pub mod Movers
 pub mod PlanRules
 pub mod Plans
 pub mod Reports

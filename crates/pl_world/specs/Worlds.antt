@@ -1,10 +1,12 @@
 -- What contracts see of a world, and what is true of each.
-use Rattle.std.specs.Prelude.{◌≡◌, ℕ, ◌<◌, ◌≤◌, List, [], ◌∷◌, length, All, true}
+use Rattle.std.specs.Prelude.{◌≡◌, ℕ, ◌<◌, ◌≤◌, List, [], ◌∷◌, length, map, All, true}
+use Rattle.std.specs.Borrow.{Bor}
 use Rattle.pl_event.specs.declared.events.Event.{Event}
 use Rattle.pl_event.specs.Meaning.{Meaning}
 use Rattle.pl_build.specs.Pipelines.{PlacedView}
 use Rattle.pl_build.specs.Paths.{IsPath}
 use Rattle.pl_head.specs.declared.inputs.ReadPlan.{ReadPlan}
+use Rattle.pl_head.specs.ReadSteps.{chunk_plan}
 use Rattle.pl_head.specs.Transports.{TransportState, new_state}
 use Rattle.pl_world.specs.declared.session.Recorded.{Recorded}
 use Rattle.pl_build.specs.declared.limits.TheConstants.{MAX_EXECUTORS}
@@ -21,6 +23,10 @@ pub record WorldView (S T : Type 0) : Type 0 where
 -- no call of a transport was made
 abbrev pub IsUncalled : TransportState → Type 0
 IsUncalled state = state ≡ new_state state.window state.fail_at
+
+-- what each channel is to read, by the chunks of each of its bursts
+abbrev pub chunk_plans : List (Bor (List (Bor (List (Bor (List ℕ)))))) → List ReadPlan
+chunk_plans inputs = map (λ input. chunk_plan input.now) inputs
 
 -- each pipeline with its input and its transport
 abbrev pub recorded : {S T : Type 0} → List (PlacedView S) → List ReadPlan → List T → List (Recorded S T)

@@ -6,6 +6,7 @@ mod chains;
 mod composing;
 mod faults;
 mod limits;
+mod memory_worlds;
 mod moves;
 mod recorded_events;
 mod report;
@@ -19,6 +20,7 @@ pub use faults::ReplayFault;
 pub use limits::{
     MAX_BURSTS, MAX_BYTES, MAX_CAPACITY, MAX_CHANNELS, MAX_ELEMENTS, bytes_left, fits, input_fits,
 };
+pub use memory_worlds::MEMORY_WINDOW;
 pub use moves::Move;
 pub use report::{ChannelReport, Report, Stands};
 pub use session::{Recorded, Session};

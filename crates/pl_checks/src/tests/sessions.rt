@@ -1,5 +1,6 @@
 //! The sessions of the examples, as texts.
 
+pub(crate) use pl_text_tests::DECODER_APART;
 use std::alloc::AllocError;
 
 /// A session of one channel with the line protocol, all on one executor: how many bytes a line has at most, and the
@@ -266,16 +267,6 @@ pub(crate) fn group_placing(rt: &impl AllocGlobal) -> Result<String, AllocError>
         "{{\"version\":1,\"capacity\":4,\"loops\":1,\"groups\":[{{\"name\":\"g\",\"size\":2}}],\"channels\":[{channel},{channel},{channel}]}}"
     )
 }
-
-/// A ping whose decoder has an executor of its own, with queues of one item.
-pub(crate) const DECODER_APART: &str =
-    r#"{"version":1,"capacity":1,"loops":1,"groups":[{"name":"a","size":1}],"channels":[{"handlers":[
-{"op":"last","name":"lines","kind":"lines","max":64},
-{"op":"last","name":"decode","kind":"decode","group":"a"},
-{"op":"last","name":"lineend","kind":"lineend"},
-{"op":"last","name":"encode","kind":"encode"},
-{"op":"last","name":"service","kind":"service"}],
-"bursts":[["PING\r\n"]]}]}"#;
 
 /// Additions to two keys, with the decoder and the service each on an executor of its own, queues of so many items, and
 /// further members of the channel, each after a comma.

@@ -429,6 +429,17 @@ fn turn_quits(rt: HostRuntime) -> Result<(), Fail> {
     assert_turn_gives(&rt, &OPEN_BEHIND_A_QUIT)
 }
 
+/// A turn that is given up for its stage gives it back as it stands, its quit seen.
+#[test]
+fn stage_is_given_back(rt: HostRuntime) -> Result<(), Fail> {
+    let mut turn = context_of(rt.alloc(), Direction::Turn, 9);
+    assert_gives(&rt, &mut turn, &[QUITS])?;
+    let stage = turn.into_stage();
+    assert!(rt; stage.has_quit);
+    assert!(rt; stage.steps == 8);
+    Ok(())
+}
+
 const BEHIND_A_FAILURE: [Given; 2] = [
     (Sample::End, Took::Dropped, &[]),
     (Sample::Flag(false), Took::Dropped, &[]),
@@ -522,9 +533,9 @@ fn assert_records(
 }
 
 /// The tail was given two events.
-fn assert_recorded(rt: &impl Abort, record: &[Event]) {
-    let events = [Event::Active, Event::ReadComplete];
-    assert!(rt; record == events.as_slice());
+fn assert_recorded(rt: &impl Abort, events: &[Event]) {
+    let given = [Event::Active, Event::ReadComplete];
+    assert!(rt; events == given.as_slice());
 }
 
 const RECORDED: [(Sample, Took); 3] = [

@@ -110,3 +110,18 @@ fn burst_by_burst(rt: HostRuntime) -> Result<(), Fail> {
     let mut head = two_bursts(rt.alloc())?;
     Ok(assert_steps(&rt, &mut head)?)
 }
+
+/// A plan of chunks has a burst for each list of them, in order, and no abort.
+#[test]
+fn plan_of_chunks(rt: HostRuntime) -> Result<(), Fail> {
+    let alloc = rt.alloc();
+    let plan = ReadPlan::of_chunks(alloc, &[&[b"ab", b""], &[]])?;
+    let bursts = plan.bursts.as_slice();
+    assert!(rt; bursts.len() == 2 && bursts[1].is_empty() && plan.abort_after.is_none());
+    let chunks = [
+        Element::Chunk(text(alloc, b"ab")?),
+        Element::Chunk(text(alloc, b"")?),
+    ];
+    assert_eq!(rt; bursts[0].as_slice(), chunks.as_slice());
+    Ok(())
+}

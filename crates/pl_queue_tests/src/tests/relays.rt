@@ -8,7 +8,7 @@ ghost use Rattle.pl_event.specs.Hops.{same_lane};
 ghost use Rattle.pl_event.specs.Worlds.{FitsWorld, content_of};
 ghost use Rattle.pl_queue.specs.Rule.{IsRun, numbers_of};
 ghost use Rattle.pl_queue.specs.Views.{sent_of, next_of, after_offer};
-ghost use Rattle.pl_queue_tests.specs.Relays.{IsFresh, sending_lanes, taking_lanes, lane_events};
+ghost use Rattle.pl_queue_tests.specs.Relays.{IsFresh, StillSends, StillTakes, lane_events};
 
 use crate::events::event;
 use crate::openings::open_two;
@@ -34,9 +34,8 @@ pub fn offer_one<W: Named, M: Mailbox<W>, R: Wait>(
     requires next { sent_of envelope.lane (M.ends.sends_of sender.old).send_counts ≡ Some (envelope.number, false) }
     requires small { envelope.number < 2 ^ 32 }
     requires fits { FitsWorld W.world envelope }
-    ensures sender { M.ends.is_sender mailbox.now sender.new }
+    ensures still { StillSends M.ends mailbox.now sender.old sender.new }
     ensures sent { IsTrue result → M.ends.sends_of sender.new ≡ after_offer (M.ends.sends_of sender.old) envelope }
-    ensures lanes { sending_lanes (M.ends.sends_of sender.new) ≡ sending_lanes (M.ends.sends_of sender.old) }
 {
     for _ in 0..MAX_TRIES {
         match mailbox.offer::<R>(rt, sender, envelope) {
@@ -58,8 +57,7 @@ pub fn take_one<W: Named, M: Mailbox<W>, R: Wait>(
     taker: &mut M::Taker,
 ) -> Option<Envelope>
     requires taker { M.ends.is_taker mailbox.now taker.old }
-    ensures taker { M.ends.is_taker mailbox.now taker.new }
-    ensures lanes { taking_lanes (M.ends.takes_of taker.new) ≡ taking_lanes (M.ends.takes_of taker.old) }
+    ensures { StillTakes M.ends mailbox.now taker.old taker.new }
 {
     for _ in 0..MAX_TRIES {
         if let Some(envelope) = mailbox.take::<R>(rt, taker) {
@@ -82,8 +80,7 @@ pub fn send_all<W: Named, M: Mailbox<W>, R: Wait>(
     requires fresh { IsFresh lane (M.ends.sends_of sender) }
     requires small { last < 2 ^ 32 }
     requires world { (lane.kind ≡ Data) × (content_of W.world lane ≡ Some (lane_events last)) }
-    ensures sender { M.ends.is_sender mailbox.now result.0 }
-    ensures lanes { sending_lanes (M.ends.sends_of result.0) ≡ sending_lanes (M.ends.sends_of sender) }
+    ensures { StillSends M.ends mailbox.now sender result.0 }
 {
     for number in 0..last {
         if !offer_one::<W, M, R>(rt, mailbox, &mut sender, event(lane, number)) {
@@ -108,8 +105,7 @@ pub fn take_all<W: Named, M: Mailbox<W>, R: Wait>(
     count: u64,
 ) -> (M::Taker, Result<Vec<Envelope>, AllocError>)
     requires taker { M.ends.is_taker mailbox.now taker }
-    ensures taker { M.ends.is_taker mailbox.now result.0 }
-    ensures lanes { taking_lanes (M.ends.takes_of result.0) ≡ taking_lanes (M.ends.takes_of taker) }
+    ensures { StillTakes M.ends mailbox.now taker result.0 }
 {
     let mut all = Vec::new(alloc);
     for _ in 0..count {
@@ -160,9 +156,9 @@ where
     requires first { (lanes.first.kind ≡ Data) × (content_of W.world lanes.first ≡ Some (lane_events lanes.last)) }
     requires second { (lanes.second.kind ≡ Data) × (content_of W.world lanes.second ≡ Some (lane_events lanes.last)) }
     requires taker { M.ends.is_taker mailbox.now taker }
-    ensures one { M.ends.is_sender mailbox.now result.0.0 × (sending_lanes (M.ends.sends_of result.0.0) ≡ sending_lanes (M.ends.sends_of senders.0)) }
-    ensures two { M.ends.is_sender mailbox.now result.1.0 × (sending_lanes (M.ends.sends_of result.1.0) ≡ sending_lanes (M.ends.sends_of senders.1)) }
-    ensures taker { M.ends.is_taker mailbox.now result.2.0 × (taking_lanes (M.ends.takes_of result.2.0) ≡ taking_lanes (M.ends.takes_of taker)) }
+    ensures one { StillSends M.ends mailbox.now senders.0 result.0.0 }
+    ensures two { StillSends M.ends mailbox.now senders.1 result.1.0 }
+    ensures taker { StillTakes M.ends mailbox.now taker result.2.0 }
 {
     let (one, two) = senders;
     let Lanes {
@@ -175,15 +171,15 @@ where
         rt,
         move || -> (M::Sender, bool)
             requires { M.ends.is_sender mailbox.now one × IsFresh first (M.ends.sends_of one) × (last < 2 ^ 32) × (first.kind ≡ Data) × (content_of W.world first ≡ Some (lane_events last)) }
-            ensures { M.ends.is_sender mailbox.entry.now result.0 × (sending_lanes (M.ends.sends_of result.0) ≡ sending_lanes (M.ends.sends_of one)) }
+            ensures { StillSends M.ends mailbox.entry.now one result.0 }
         { send_all::<W, M, R>(rt, mailbox, one, first, last) },
         move || -> (M::Sender, bool)
             requires { M.ends.is_sender mailbox.now two × IsFresh second (M.ends.sends_of two) × (last < 2 ^ 32) × (second.kind ≡ Data) × (content_of W.world second ≡ Some (lane_events last)) }
-            ensures { M.ends.is_sender mailbox.entry.now result.0 × (sending_lanes (M.ends.sends_of result.0) ≡ sending_lanes (M.ends.sends_of two)) }
+            ensures { StillSends M.ends mailbox.entry.now two result.0 }
         { send_all::<W, M, R>(rt, mailbox, two, second, last) },
         move || -> (M::Taker, Result<Vec<Envelope>, AllocError>)
             requires { M.ends.is_taker mailbox.now taker }
-            ensures { M.ends.is_taker mailbox.entry.now result.0 × (taking_lanes (M.ends.takes_of result.0) ≡ taking_lanes (M.ends.takes_of taker)) }
+            ensures { StillTakes M.ends mailbox.entry.now taker result.0 }
         { take_all::<W, M, R>(rt, alloc, mailbox, taker, total) },
     )
 }

@@ -1,11 +1,7 @@
 //! Why moves are not enabled.
 
-ghost use Rattle.std.specs.Prelude.{◌≡◌, ◌==◌, ℕ, List, IfSome, is_none, length, true};
-ghost use Rattle.pl_context.specs.WaitingViews.{Entry};
-ghost use Rattle.pl_net.specs.Stations.{stations_view};
+ghost use Rattle.std.specs.Prelude.{◌≡◌, ◌==◌, length};
 ghost use Rattle.pl_world.specs.declared.moves.Move.TheVariants.{Read, Task, Hand, Out};
-ghost use Rattle.pl_world.specs.Plans.{Plan};
-ghost use Rattle.pl_replay.specs.MoveModel.{is_there};
 
 use super::Net;
 use pl_event::Stage;
@@ -33,17 +29,12 @@ pub enum Hindrance {
 }
 
 impl<S: Stage, T: Transport> Net<S, T> {
-    ghost use Rattle.pl_replay.specs.Hindrances.{Hinders};
-    ghost use Rattle.pl_replay.specs.Moves.{IsEnabled};
-    ghost use Rattle.pl_replay.specs.NetStand.{NetStands};
+    ghost use Rattle.pl_replay.specs.Hindrances.{TellsHindrance};
 
     /// Why a move is not enabled: None where it is, and where it names what is not there. `apply` makes a move that is there
     /// exactly where nothing hinders it.
     pub fn hindrance(&self, step: Move) -> Option<Hindrance>
-        ensures enabled { (plan : Plan) (backlogs : ℕ → List (Entry Unit)) → NetStands S.meaning S.stands_after T.state plan backlogs self.now → is_there plan step ≡ true
-            → IsEnabled S.meaning S.stands_after S.is_spent T.state T.may_refuse plan.capacity step (stations_view self.now backlogs) (is_none result) }
-        ensures reason { IfSome result (λ why. (plan : Plan) (backlogs : ℕ → List (Entry Unit)) → NetStands S.meaning S.stands_after T.state plan backlogs self.now
-            → Hinders why step (stations_view self.now backlogs)) }
+        ensures { TellsHindrance S.meaning S.stands_after S.is_spent T.state T.may_refuse step self.now result }
     {
         match step {
             Move::Read(channel) => self.read_hindrance(channel),
@@ -55,10 +46,7 @@ impl<S: Stage, T: Transport> Net<S, T> {
 
     /// Why a channel makes no read step.
     fn read_hindrance(&self, channel: u16) -> Option<Hindrance>
-        ensures enabled { (plan : Plan) (backlogs : ℕ → List (Entry Unit)) → NetStands S.meaning S.stands_after T.state plan backlogs self.now → is_there plan (Read channel) ≡ true
-            → IsEnabled S.meaning S.stands_after S.is_spent T.state T.may_refuse plan.capacity (Read channel) (stations_view self.now backlogs) (is_none result) }
-        ensures reason { IfSome result (λ why. (plan : Plan) (backlogs : ℕ → List (Entry Unit)) → NetStands S.meaning S.stands_after T.state plan backlogs self.now
-            → Hinders why (Read channel) (stations_view self.now backlogs)) }
+        ensures { TellsHindrance S.meaning S.stands_after S.is_spent T.state T.may_refuse (Read channel) self.now result }
     {
         let head = self.head(channel)?;
         if !head.has_read_step() {
@@ -72,10 +60,7 @@ impl<S: Stage, T: Transport> Net<S, T> {
 
     /// Why an executor takes nothing.
     fn task_hindrance(&self, executor: u16) -> Option<Hindrance>
-        ensures enabled { (plan : Plan) (backlogs : ℕ → List (Entry Unit)) → NetStands S.meaning S.stands_after T.state plan backlogs self.now → is_there plan (Task executor) ≡ true
-            → IsEnabled S.meaning S.stands_after S.is_spent T.state T.may_refuse plan.capacity (Task executor) (stations_view self.now backlogs) (is_none result) }
-        ensures reason { IfSome result (λ why. (plan : Plan) (backlogs : ℕ → List (Entry Unit)) → NetStands S.meaning S.stands_after T.state plan backlogs self.now
-            → Hinders why (Task executor) (stations_view self.now backlogs)) }
+        ensures { TellsHindrance S.meaning S.stands_after S.is_spent T.state T.may_refuse (Task executor) self.now result }
     {
         let station = self.station(executor as usize)?;
         if has_no_task(station) {
@@ -86,10 +71,7 @@ impl<S: Stage, T: Transport> Net<S, T> {
 
     /// Why an executor hands nothing over.
     fn hand_hindrance(&self, executor: u16) -> Option<Hindrance>
-        ensures enabled { (plan : Plan) (backlogs : ℕ → List (Entry Unit)) → NetStands S.meaning S.stands_after T.state plan backlogs self.now → is_there plan (Hand executor) ≡ true
-            → IsEnabled S.meaning S.stands_after S.is_spent T.state T.may_refuse plan.capacity (Hand executor) (stations_view self.now backlogs) (is_none result) }
-        ensures reason { IfSome result (λ why. (plan : Plan) (backlogs : ℕ → List (Entry Unit)) → NetStands S.meaning S.stands_after T.state plan backlogs self.now
-            → Hinders why (Hand executor) (stations_view self.now backlogs)) }
+        ensures { TellsHindrance S.meaning S.stands_after S.is_spent T.state T.may_refuse (Hand executor) self.now result }
     {
         let station = self.station(executor as usize)?;
         if self.next_target(executor as usize).is_some() {
@@ -103,10 +85,7 @@ impl<S: Stage, T: Transport> Net<S, T> {
 
     /// Why a channel writes nothing.
     fn write_hindrance(&self, channel: u16) -> Option<Hindrance>
-        ensures enabled { (plan : Plan) (backlogs : ℕ → List (Entry Unit)) → NetStands S.meaning S.stands_after T.state plan backlogs self.now → is_there plan (Out channel) ≡ true
-            → IsEnabled S.meaning S.stands_after S.is_spent T.state T.may_refuse plan.capacity (Out channel) (stations_view self.now backlogs) (is_none result) }
-        ensures reason { IfSome result (λ why. (plan : Plan) (backlogs : ℕ → List (Entry Unit)) → NetStands S.meaning S.stands_after T.state plan backlogs self.now
-            → Hinders why (Out channel) (stations_view self.now backlogs)) }
+        ensures { TellsHindrance S.meaning S.stands_after S.is_spent T.state T.may_refuse (Out channel) self.now result }
     {
         let head = self.head(channel)?;
         if !head.is_written() {

@@ -60,4 +60,16 @@ impl<S: Stage, T: Transport> Net<S, T> {
             ),
         }
     }
+
+    /// Whether the channel or the executor of a move is there.
+    fn is_there(&self, step: Move) -> bool
+        ensures { (plan : Plan) (backlogs : ℕ → List (Entry Unit)) → NetStands S.meaning S.stands_after T.state plan backlogs self.now → result ≡ is_there plan step }
+    {
+        match step {
+            Move::Read(channel) | Move::Out(channel) => (channel as usize) < self.parts().len(),
+            Move::Task(executor) | Move::Hand(executor) => {
+                (executor as usize) < self.stations.executors()
+            }
+        }
+    }
 }

@@ -6,9 +6,10 @@ use crate::tests::net_tests::plans;
 use crate::tests::world_tests::{memory_transport, one_transport, only};
 use crate::tests::{Seen, assert_one};
 use pl_build::{Groups, PipelineBuilder, Placed};
+use pl_context::Standing;
 use pl_event::{BareStage, Direction, Event, Fused, Message, Reply, Stage, Turned};
 use pl_head::MemoryTransport;
-use pl_replay::replay_world;
+use pl_replay::{Net, replay_world};
 use pl_stages::ThriftyBare;
 use pl_world::{Move, Stands, World};
 use std::alloc::{AllocError, Global};
@@ -124,4 +125,38 @@ fn counter_on_an_executor_of_its_own(rt: HostRuntime) -> Result<(), Fail> {
         moves.extend_from_slice(&[Move::Hand(0), Move::Task(1), Move::Hand(1), Move::Task(0)])?;
     }
     assert_tail(&rt, rt.alloc(), Some("a"), moves.as_slice())
+}
+
+/// How each counter of a net stood, which is given back, and how many reads it had seen: by hop, and None at the tail's.
+fn given_back(
+    alloc: Global,
+    net: Net<Fused<Counter>, MemoryTransport>,
+) -> Result<Vec<Option<(Standing, u64)>>, Fail> {
+    let mut told = Vec::new(alloc);
+    for stages in net.into_stages()? {
+        for slot in stages {
+            let counter = match slot {
+                Some(kept) => Some((kept.standing, kept.stage.into_stage().seen)),
+                None => None,
+            };
+            told.push(counter)?;
+        }
+    }
+    Ok(told)
+}
+
+/// Both counters are given back where the channel is drained: each has taken all of its lane, and counted the reads. The tail's
+/// hop, the third, has no stage.
+#[test]
+fn counters_are_given_back(rt: HostRuntime) -> Result<(), Fail> {
+    let alloc = rt.alloc();
+    let mut net = Net::new(alloc, world(alloc, None)?, 2)?;
+    for _ in 0..4 {
+        net.apply(Move::Read(0))?;
+    }
+    assert!(rt; net.drained());
+    let told = given_back(alloc, net)?;
+    let ended = Some((Standing::Ended, 3));
+    assert_eq!(rt; told.as_slice(), [ended, ended, None].as_slice());
+    Ok(())
 }

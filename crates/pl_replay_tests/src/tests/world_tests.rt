@@ -9,7 +9,7 @@ use pl_build::{Groups, Placed};
 use pl_event::{Element, Sequence};
 use pl_head::{MemoryTransport, ReadPlan, Transport};
 use pl_stages::Handler;
-use pl_world::{World, WorldRefusal, fits};
+use pl_world::{World, WorldRefusal, fits, plain_world};
 use std::alloc::{AllocError, Global};
 use std::test::Fail;
 
@@ -205,6 +205,66 @@ fn too_long_inputs(rt: HostRuntime) -> Result<(), Fail> {
         assert_eq!(rt; refusal_of_chunks(alloc, 16_384 + past)?, want);
         assert_eq!(rt; refusal_of_bytes(alloc, 1_048_576 + past)?, want);
     }
+    Ok(())
+}
+
+/// The refusal of a given number of channels with the line protocol over memory, with a given number of inputs.
+fn refusal_over_memory(
+    alloc: Global,
+    channels: usize,
+    inputs: usize,
+    executors: u16,
+    input: Bursts,
+) -> Result<Option<WorldRefusal>, Fail> {
+    let mut groups = Groups::new(alloc, 1, &[])?;
+    let pipelines = equal_pipelines(alloc, &mut groups, channels)?;
+    let inputs = vec![in alloc; input; inputs]?;
+    match World::over_memory(alloc, pipelines.into_vec(), inputs.as_slice(), executors) {
+        Ok(_) => Ok(None),
+        Err(refusal) => Ok(Some(refusal)),
+    }
+}
+
+#[test]
+fn refused_over_memory(rt: HostRuntime) -> Result<(), Fail> {
+    let alloc = rt.alloc();
+    for (channels, inputs, executors, want) in [
+        (64, 64, 1, None),
+        (65, 65, 1, Some(WorldRefusal::Limit)),
+        (1, 1, 65, Some(WorldRefusal::Limit)),
+        (1, 1, 0, Some(WorldRefusal::Limit)),
+        (1, 2, 1, Some(WorldRefusal::Limit)),
+        (2, 1, 1, Some(WorldRefusal::Limit)),
+    ] {
+        assert_eq!(rt;
+            refusal_over_memory(alloc, channels, inputs, executors, PING)?,
+            want
+        );
+    }
+    let none: &[&[u8]] = &[];
+    for (count, want) in [(4_096, None), (4_097, Some(WorldRefusal::Limit))] {
+        let bursts = vec![in alloc; none; count]?;
+        assert_eq!(rt;
+            refusal_over_memory(alloc, 1, 1, 1, bursts.as_slice())?,
+            want
+        );
+    }
+    Ok(())
+}
+
+/// Each channel has the pipeline and the input of its place, and a transport that takes all it is offered.
+#[test]
+fn world_over_memory(rt: HostRuntime) -> Result<(), Fail> {
+    let alloc = rt.alloc();
+    let mut groups = Groups::new(alloc, 1, &[])?;
+    let pipelines = equal_pipelines(alloc, &mut groups, 2)?;
+    let inputs: &[Bursts] = &[&[&[b"PI", b"NG\n"]], &[&[b"QUIT\n"]]];
+    let world = World::over_memory(alloc, pipelines.into_vec(), inputs, groups.executors())?;
+    let report = plain_world(alloc, world)?;
+    let channels = report.channels.as_slice();
+    assert_eq!(rt; channels.len(), 2);
+    assert_eq!(rt; channels[0].bytes.as_slice(), b"+PONG\r\n".as_slice());
+    assert_eq!(rt; channels[1].bytes.as_slice(), b"+BYE\r\n".as_slice());
     Ok(())
 }
 

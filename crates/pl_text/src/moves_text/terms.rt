@@ -2,8 +2,9 @@
 
 ghost use Rattle.std.specs.Prelude.{◌≡◌, ◌≢◌, ℕ, ◌++◌, ◌≤◌, Option, decimal, encode_utf8, IfSome, IfNone};
 ghost use Rattle.pl_world.specs.declared.moves.Move.{Move};
+ghost use Rattle.pl_world.specs.Movers.{mover_of};
 ghost use Rattle.pl_text.specs.declared.moves_text.terms.Term.{Term};
-ghost use Rattle.pl_text.specs.MovesTexts.{IsTermWithin, AreInRange, move_text, number_of, term_text, count_text};
+ghost use Rattle.pl_text.specs.MovesTexts.{IsTermWithin, AreInRange, move_text, term_text, count_text};
 
 use super::MAX_MOVES;
 use itoa::Buffer;
@@ -40,8 +41,8 @@ fn number(text: &str, max: u32) -> Option<u32>
 
 /// The move of a letter, at a number.
 fn move_of(letter: char, number: u16) -> Option<Move>
-    ensures some { IfSome result (λ step. (move_text step ≡ encode_utf8 letter ++ decimal number) × (number_of step ≡ number)) }
-    ensures none { IfNone result ((step : Move) → move_text step ≢ encode_utf8 letter ++ decimal (number_of step)) }
+    ensures some { IfSome result (λ step. (move_text step ≡ encode_utf8 letter ++ decimal number) × (mover_of step ≡ number)) }
+    ensures none { IfNone result ((step : Move) → move_text step ≢ encode_utf8 letter ++ decimal (mover_of step)) }
 {
     match letter {
         'R' => Some(Move::Read(number)),

@@ -13,11 +13,11 @@ pub const MAX_EDITS: usize = 256;
 /// How many bytes a transport accepts at most in one call.
 pub const MAX_WINDOW: u32 = 65_536;
 
+/// How many bytes it accepts in one call where the text does not say.
+pub(crate) const DEFAULT_WINDOW: u32 = 65_536;
+
 /// The greatest number of a call of a transport that a text can tell to fail.
 pub const MAX_FAIL_AT: u32 = 4_294_967_295;
 
 /// The greatest number of a user event.
 pub const MAX_USER_EVENT: u32 = 4_294_967_295;
-
-/// How many bytes a transport accepts in one call where the text does not say.
-pub(crate) const DEFAULT_WINDOW: u32 = 65_536;

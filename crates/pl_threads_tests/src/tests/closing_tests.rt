@@ -15,45 +15,35 @@ use std::test::Fail;
 
 const NOT_ADMITTED: Expected = (Call::Admit, Answer::Refused(Refused::Closed));
 
-const CLOSES_WITH_FOUR: [Expected; 26] = [
+const CLOSES_WITH_FOUR: &[&[Expected]] = &[
     // Not all has ended, so it does not begin.
-    IDLE,
-    (Call::Status, Answer::Is(Status::Accepting)),
-    ADMITTED,
-    PUSHED,
-    ADMITTED,
-    PUSHED,
-    ADMITTED,
-    WORKED,
-    WORKED,
-    (Call::Status, Answer::Is(Status::Accepting)),
+    &[IDLE, (Call::Status, Answer::Is(Status::Accepting))],
+    &[ADMITTED, PUSHED, ADMITTED, PUSHED, ADMITTED, WORKED, WORKED],
+    &[(Call::Status, Answer::Is(Status::Accepting))],
     // Two of three have come.
-    IDLE,
-    (Call::Status, Answer::Is(Status::Closing)),
-    ADMITTED,
-    PUSHED,
-    WORKED,
-    IDLE,
-    (Call::Status, Answer::Is(Status::Closing)),
-    PUSHED,
-    WORKED,
-    DONE,
-    NOT_ADMITTED,
-    NOT_ADMITTED,
-    (Call::Status, Answer::Is(Status::Closed)),
+    &[IDLE, (Call::Status, Answer::Is(Status::Closing))],
+    &[ADMITTED, PUSHED, WORKED, IDLE],
+    &[
+        (Call::Status, Answer::Is(Status::Closing)),
+        PUSHED,
+        WORKED,
+        DONE,
+    ],
+    &[
+        NOT_ADMITTED,
+        NOT_ADMITTED,
+        (Call::Status, Answer::Is(Status::Closed)),
+    ],
     // What comes without an admission stays in the queue.
-    PUSHED,
-    (Call::RunTask, Answer::Did(false)),
-    DONE,
+    &[PUSHED, (Call::RunTask, Answer::Did(false)), DONE],
 ];
 
 /// An executor has ended once two have come, and three were admitted: it begins to close, and one more is admitted. It closes
 /// with four, and then none is admitted and no task is taken.
 #[test]
 fn admission_closes(rt: HostRuntime) -> Result<(), Fail> {
-    let rows = CLOSES_WITH_FOUR.as_slice();
-    play::<Brand, RingBox<Brand>, _>(&rt, rt.alloc(), 8, maker((0, 0), 2), rows)?;
-    play::<Brand, WaitingBox<Brand>, _>(&rt, rt.alloc(), 8, maker((0, 0), 2), rows)
+    play::<Brand, RingBox<Brand>, _>(&rt, rt.alloc(), 8, maker((0, 0), 2), CLOSES_WITH_FOUR)?;
+    play::<Brand, WaitingBox<Brand>, _>(&rt, rt.alloc(), 8, maker((0, 0), 2), CLOSES_WITH_FOUR)
 }
 
 /// Executor 0 is closed, and three flags are to be made for it, and two for executor 1.

@@ -73,6 +73,23 @@ fn open<W: Named, M: Mailbox<W> + Drop>(
     Ok((inbox, own, ways))
 }
 
+/// What an executor has: its own ends, and the ways to all.
+fn place<W: Named, M: Mailbox<W> + Drop>(
+    own: Own<W, M>,
+    first: Way<W, M>,
+    second: Way<W, M>,
+    third: Way<W, M>,
+) -> Place<W, M>
+    ensures { result ≡ record { own = own; first = first; second = second; third = third } }
+{
+    Place {
+        own,
+        first,
+        second,
+        third,
+    }
+}
+
 /// The inboxes of executors 0, 1 and 2, whose queues hold so many, and what each executor has of them. Executor 2 makes
 /// flags for 0 and 1, and executor 0 for 2.
 pub(crate) fn open_three<W: Named, M: Mailbox<W> + Drop>(
@@ -85,28 +102,10 @@ pub(crate) fn open_three<W: Named, M: Mailbox<W> + Drop>(
     let (second, second_own, to_second) = open::<W, M>(alloc, 1, capacity)?;
     let (third, third_own, to_third) = open::<W, M>(alloc, 2, capacity)?;
     let inboxes = three(alloc, first, second, third)?;
-    let first = Place {
-        own: first_own,
-        first: to_first.1,
-        second: to_second.1,
-        third: to_third.0,
-    };
-    let second = Place {
-        own: second_own,
-        first: to_first.2,
-        second: to_second.2,
-        third: to_third.1,
-    };
-    let third = Place {
-        own: third_own,
-        first: to_first.0,
-        second: to_second.0,
-        third: to_third.2,
-    };
     let places = Places {
-        first,
-        second,
-        third,
+        first: place(first_own, to_first.1, to_second.1, to_third.0),
+        second: place(second_own, to_first.2, to_second.2, to_third.1),
+        third: place(third_own, to_first.0, to_second.0, to_third.2),
     };
     Ok((inboxes, places))
 }

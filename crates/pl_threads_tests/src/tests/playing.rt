@@ -85,31 +85,37 @@ impl<'a, W: Named, M: Mailbox<W> + Drop> Alone<'a, W, M> {
     }
 }
 
-/// An executor answers these calls, made one after another, as it is to.
+/// An executor answers these calls of a row, made one after another, as it is to.
 fn assert_answers<W: Named, M: Mailbox<W> + Drop, R: Abort + Wait>(
     rt: &R,
     alone: &mut Alone<'_, W, M>,
-    rows: &[Expected],
+    row: usize,
+    calls: &[Expected],
 ) {
-    for (row, (call, answer)) in rows.iter().enumerate() {
-        assert!(rt; alone.apply(rt, *call) == *answer, "row {row}");
+    for (number, (call, answer)) in calls.iter().enumerate() {
+        assert!(rt;
+            alone.apply(rt, *call) == *answer,
+            "row {row}, call {number}"
+        );
     }
 }
 
-/// Makes these calls, one after another, of executor 2 with these nodes. The queues hold so many.
+/// Makes the calls of these rows, one after another, of executor 2 with these nodes. The queues hold so many.
 pub(crate) fn play<W: Named, M: Mailbox<W> + Drop, R: Abort + Wait>(
     rt: &R,
     alloc: Global,
     capacity: usize,
     node: Node,
-    rows: &[Expected],
+    rows: &[&[Expected]],
 ) -> Result<(), Fail>
     requires executor { node.executor ≡ 2 }
     requires ready { IsReady node }
 {
     let (inboxes, places) = open_three::<W, M>(alloc, capacity)?;
     let mut alone = set_apart(alloc, inboxes.as_slice(), places, node)?;
-    assert_answers(rt, &mut alone, rows);
+    for (row, calls) in rows.iter().enumerate() {
+        assert_answers(rt, &mut alone, row, calls);
+    }
     drop(alone);
     Ok(())
 }

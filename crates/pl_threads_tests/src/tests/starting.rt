@@ -109,9 +109,7 @@ pub(crate) fn forwarder(counts: (u32, u32), expected: u64) -> Node
     ensures executor { result.executor ≡ 2 }
     ensures ready { IsReady result }
 {
-    let mut node = maker(counts, expected);
-    node.forwards = true;
-    node
+    maker(counts, expected).forwarding()
 }
 
 /// The nodes of executor 0, which makes a flag for executor 2 for each one that comes, up to so many. It has ended once so many
@@ -120,14 +118,13 @@ fn answerer(count: u32) -> Node
     ensures executor { result.executor ≡ 0 }
     ensures ready { IsReady result }
 {
-    let mut node = Node::new(
+    Node::new(
         0,
         Outlet::new(2, count),
         Outlet::new(1, 0),
         u64::from(count),
-    );
-    node.forwards = true;
-    node
+    )
+    .forwarding()
 }
 
 /// The nodes of executor 1, which makes nothing. It has ended once so many have come.

@@ -19,14 +19,7 @@ impl<'v> Walk<'v> {
     /// The members of the top object.
     pub(super) fn session(&mut self, top: &'v Value) -> Result<(), SessionFault> {
         an_object(top)?;
-        let version = self
-            .member(top, "version")?
-            .as_u64()
-            .ok_or(SessionFault::Kind)?;
-        if version != 1 && version != 2 {
-            return Err(SessionFault::Version);
-        }
-        self.leave();
+        let version = self.one_of(top, "version", (1, 2), SessionFault::Version)?;
         self.whole(top, "capacity", 1, u64::from(MAX_CAPACITY))?;
         self.whole(top, "loops", 1, u64::from(MAX_EXECUTORS))?;
         self.groups(top)?;
@@ -125,16 +118,26 @@ impl<'v> Walk<'v> {
         Ok(())
     }
 
-    /// The width of a length field.
-    fn width(&mut self, edit: &'v Value) -> Result<(), SessionFault> {
-        let width = self
-            .member(edit, "width")?
-            .as_u64()
-            .ok_or(SessionFault::Kind)?;
-        if width != 2 && width != 4 {
-            return Err(SessionFault::Limit);
+    /// A member that is one of two numbers. Another number is this fault.
+    fn one_of(
+        &mut self,
+        object: &'v Value,
+        name: &'static str,
+        allowed: (u64, u64),
+        fault: SessionFault,
+    ) -> Result<u64, SessionFault> {
+        let member = self.member(object, name)?;
+        let number = member.as_u64().ok_or(SessionFault::Kind)?;
+        if number != allowed.0 && number != allowed.1 {
+            return Err(fault);
         }
         self.leave();
+        Ok(number)
+    }
+
+    /// The width of a length field.
+    fn width(&mut self, edit: &'v Value) -> Result<(), SessionFault> {
+        self.one_of(edit, "width", (2, 4), SessionFault::Limit)?;
         Ok(())
     }
 

@@ -64,18 +64,21 @@ fn command<'a>(alloc: Global) -> Result<Command<'a>, AllocError> {
 
 /// A subcommand to which a schedule may be given.
 fn with_source<'a>(alloc: Global, command: Command<'a>) -> Result<Command<'a>, AllocError> {
-    let moves = Arg::new(alloc, "moves")
-        .long("moves")
-        .value_name("MOVES")
-        .action(ArgAction::Set)
-        .help("The moves, as \"R0x3 O0\"; groups may repeat, as \"(R0 H0 T1)x40\"; else none");
-    let file = Arg::new(alloc, "moves-file")
-        .long("moves-file")
-        .value_name("FILE")
-        .action(ArgAction::Set)
+    let moves = option(alloc, "moves", "MOVES").help(
+        "The moves, as \"R0x3 O0\"; groups may repeat, as \"(R0 H0 T1)x40\"; else none",
+    );
+    let file = option(alloc, "moves-file", "FILE")
         .help("A file with the moves, on lines, where # begins a comment")
         .conflicts_with("moves")?;
     command.arg(moves)?.arg(file)
+}
+
+/// An option with a value.
+fn option<'a>(alloc: Global, name: &'a str, value: &'a str) -> Arg<'a> {
+    Arg::new(alloc, name)
+        .long(name)
+        .value_name(value)
+        .action(ArgAction::Set)
 }
 
 /// The subcommand that makes a schedule.
@@ -84,9 +87,7 @@ fn schedule_command<'a>(alloc: Global) -> Result<Command<'a>, AllocError> {
         .long("fair")
         .action(ArgAction::SetTrue)
         .help("Takes all moves in turn, as without an option");
-    let seed = Arg::new(alloc, "seed")
-        .long("seed")
-        .value_name("N")
+    let seed = option(alloc, "seed", "N")
         .value_parser(value_parser!(u64))
         .help("Draws each move by a generator of this seed")
         .conflicts_with("fair")?;

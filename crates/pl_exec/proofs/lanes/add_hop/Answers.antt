@@ -1,16 +1,10 @@
-use Rattle.std.proofs.Common.{◌≡◌, ◌+◌, ◌==◌, [], ◌∷◌, true, false, length, ap, subst, sym, ◌∙◌, arith}
+use Rattle.std.proofs.Common.{◌≡◌, ◌+◌, ◌==◌, [], ◌∷◌, true, false, length, ap, sym, ◌∙◌, arith}
 use Rattle.std.specs.Prelude.{if◌then◌else◌}
 use Rattle.std.proofs.lemmas.Bool.{eq-eqb, ne_eqb}
 use Rattle.pl_event.specs.Hops.{data_lane, flags_lane}
-use Rattle.pl_exec.specs.Opening.{LaneTable, IsSquare, lanes_in}
+use Rattle.pl_exec.specs.Opening.{LaneTable, lanes_in}
 use Rattle.pl_exec.specs.Lanes.{with_lane, with_lanes}
-use Rattle.pl_exec.proofs.LaneTablesGrown.{with-square}
 use Rattle.pl_exec.proofs.lanes.add_hop.Goals as goal
-
--- the table stays square
-pub add_between-requires-then-hop-hops : goal.add_between-requires-then-hop-hops
-add_between-requires-then-hop-hops g c =
-    subst (λ (t : LaneTable). IsSquare t) (sym c.in_ok-add_between.ensures) (with-square c.sender_of-sender.result c.target-target.result (data_lane c.args.channel c.args.hop) (lanes_in c.args.table.now.items))
 
 pub returns-in_ok-add_between-2 : goal.returns-in_ok-add_between-2
 returns-in_ok-add_between-2 g c =
@@ -19,8 +13,8 @@ returns-in_ok-add_between-2 g c =
     let hops = length c.args.part.now.path.executors in
     let last : (c.args.hop + 1 == hops) ≡ false = ne_eqb (c.args.hop + 1) hops (λ e. omega (arith, e, c.if-hop-hops.true, c.hops.ensures)) in
     c.in_ok-add_between-2.ensures
-    ∙ ap (λ (t : LaneTable). with_lane t c.sender_of-sender.result c.target-target.result second) c.in_ok-add_between.ensures
-    ∙ (λ i. with_lanes (lanes_in c.args.table.now.items) (c.sender_of-sender.ensures i) (c.target-target.ensures i) (if sym last i then first ∷ [] else first ∷ second ∷ []))
+    ∙ ap (λ (t : LaneTable). with_lane t c.origin_of-origin.result c.target-target.result second) c.in_ok-add_between.ensures
+    ∙ (λ i. with_lanes (lanes_in c.args.table.now.items) (c.origin_of-origin.ensures i) (c.target-target.ensures i) (if sym last i then first ∷ [] else first ∷ second ∷ []))
 
 pub returns-else-hop-hops : goal.returns-else-hop-hops
 returns-else-hop-hops g c =
@@ -28,4 +22,4 @@ returns-else-hop-hops g c =
     let second = flags_lane c.args.channel c.args.hop in
     let hops = length c.args.part.now.path.executors in
     let last : (c.args.hop + 1 == hops) ≡ true = eq-eqb (c.args.hop + 1) hops (omega (arith, c.if-hop-hops.false, c.hops.ensures, c.requires.there)) in
-    c.in_ok-add_between.ensures ∙ (λ i. with_lanes (lanes_in c.args.table.now.items) (c.sender_of-sender.ensures i) (c.target-target.ensures i) (if sym last i then first ∷ [] else first ∷ second ∷ []))
+    c.in_ok-add_between.ensures ∙ (λ i. with_lanes (lanes_in c.args.table.now.items) (c.origin_of-origin.ensures i) (c.target-target.ensures i) (if sym last i then first ∷ [] else first ∷ second ∷ []))

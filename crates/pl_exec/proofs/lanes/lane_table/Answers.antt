@@ -1,4 +1,4 @@
-use Rattle.std.proofs.Common.{◌≡◌, ◌+◌, ◌++◌, ℕ, List, Some, length, slice_get, take, ap, refl, subst, sym, ◌∙◌, append-nil, arith}
+use Rattle.std.proofs.Common.{◌≡◌, ◌+◌, ◌++◌, ℕ, List, Some, length, slice_get, take, ap, refl, sym, ◌∙◌, append-nil, arith}
 use Rattle.std.specs.List.{flat_map, range_with_len}
 use Rattle.std.proofs.lemmas.List.{take_all}
 use Rattle.std.proofs.lemmas.Option.{slice_get_read}
@@ -6,14 +6,14 @@ use Rattle.pl_event.specs.declared.envelopes.Lane.{Lane}
 use Rattle.pl_part.specs.Parts.{ChannelPartView}
 use Rattle.pl_part.specs.Paths.{writer_hop}
 use Rattle.pl_channel.specs.Channels.{executor_at}
-use Rattle.pl_exec.specs.Opening.{LaneTable, IsSquare}
+use Rattle.pl_exec.specs.Opening.{LaneTable}
 use Rattle.pl_exec.specs.Lanes.{every_lane, lanes_at, table_of, with_lanes}
-use Rattle.pl_exec.proofs.LaneTablesGrown.{made-square, next-hop}
+use Rattle.pl_exec.proofs.LaneTablesGrown.{next-hop, none-in}
 use Rattle.pl_exec.proofs.LaneTablesSteps.{channel-executors, channel-few, channel-more, joined-more}
 use Rattle.pl_exec.proofs.lanes.lane_table.Goals as goal
 
 pub loop-part-init : goal.loop-part-init
-loop-part-init g c = record { number = refl; made = c.in_ok-table.ensures }
+loop-part-init g c = record { number = refl; made = none-in c.in_ok-table.table.items c.args.count c.in_ok-table.ensures.count c.in_ok-table.ensures.none }
 
 pub overflow_cast-hops : goal.overflow_cast-hops
 overflow_cast-hops g c =
@@ -28,12 +28,6 @@ add_hop-requires-clause-hops g c = channel-executors c.args.parts.now c.loop-par
 
 pub add_hop-requires-clause-there : goal.add_hop-requires-clause-there
 add_hop-requires-clause-there g c = omega (arith, c.loop-hop-test.true, c.hops-hops.ensures)
-
-pub add_hop-requires-clause-square : goal.add_hop-requires-clause-square
-add_hop-requires-clause-square g c =
-    let p = c.part-item.result in
-    subst (λ (t : LaneTable). IsSquare t) (sym c.loop-hop.invariant)
-    (made-square c.args.parts.now (every_lane (take c.loop-part.part-index c.args.parts.now) ++ flat_map (lanes_at c.loop-part.channel (length p.path.executors)) (range_with_len 0 c.loop-hop.hop)) c.args.count)
 
 pub loop-hop-preserved : goal.loop-hop-preserved
 loop-hop-preserved g c =

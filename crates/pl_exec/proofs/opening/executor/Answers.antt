@@ -1,53 +1,43 @@
-use Rattle.std.proofs.Common.{◌≡◌, List, length, map, ap, sym, subst, ◌∙◌, arith, ℕ, ◌<◌, ◌^◌}
+use Rattle.std.proofs.Common.{List, length, map, ap, sym, subst, ◌∙◌, arith, ℕ, ◌<◌, ◌^◌}
+use Rattle.std.specs.Prelude.{All}
 use Rattle.std.proofs.lemmas.Bool.{false≢true}
 use Rattle.pl_context.specs.Stops.{HasPlaces, StopsView, no_stops}
 use Rattle.pl_queue.specs.declared.views.TakerView.{TakerView}
 use Rattle.pl_words.specs.Admissions.{OwnerSeatView}
-use Rattle.pl_queue.specs.Ends.{MailboxEnds}
-use Rattle.pl_outbox.specs.OutboxViews.{OutboxView, waits_for}
+use Rattle.pl_outbox.specs.OutboxViews.{IsNew, OutboxView, waits_for}
 use Rattle.pl_threads.specs.declared.cores.Core.{Core}
 use Rattle.pl_threads.specs.Running.{ExecutorView, IsTaking}
-use Rattle.pl_exec.specs.Opening.{ColumnView, HasWays, OwnView, PlacesView, inbox_view}
-use Rattle.pl_exec.proofs.Columns.{columns-send, inboxes-count, inboxes-within, outboxes-new, shown-at}
+use Rattle.pl_exec.specs.Opening.{OwnView, PlacesView, WaysView, inbox_view}
+use Rattle.pl_exec.proofs.Columns.{inboxes-count, inboxes-within, shown-at}
 use Rattle.pl_exec.proofs.StartLemmas.{starts-taking, starts-running}
+use Rattle.pl_exec.proofs.WaysDealt.{outboxes-new}
 use Rattle.pl_exec.proofs.opening.executor.Goals as goal
 
-pub ways_of-requires-clause-count : goal.ways_of-requires-clause-count
-ways_of-requires-clause-count g c = c.requires.starts.left.count ∙ inboxes-count c.args.inboxes.now
-
-pub ways_of-requires-clause-places : goal.ways_of-requires-clause-places
-ways_of-requires-clause-places g c =
-    let s = c.requires.starts in
-    ap (λ (counts : List ℕ). length counts) (c.as_slice.ensures.value ∙ ap (λ (p : PlacesView). p.targets) c.places.view_is) ∙ s.fits.targets ∙ sym s.count ∙ inboxes-count c.args.inboxes.now
-
-pub ways_of-requires-clause-senders : goal.ways_of-requires-clause-senders
-ways_of-requires-clause-senders g c =
-    let s = c.requires.starts in
-    columns-send g.M.Mailbox.ends s.lanes s.square c.args.number (map inbox_view c.args.inboxes.now) c.args.columns.now.items s.left s.count (inboxes-within c.args.inboxes.now c.args.number c.requires.there)
-
--- the same ways, by other words
-as-ways : {M S T : Type 0} (ends : MailboxEnds M S T) (number : ℕ) (columns : List (ColumnView S)) (reserved reserved' : List ℕ) (count count' : ℕ) (numbers : List ℕ) (outboxes : List OutboxView) (places : List ℕ)
-    → HasWays ends number columns reserved count numbers outboxes places → reserved ≡ reserved' → count ≡ count' → HasWays ends number columns reserved' count' numbers outboxes places
-as-ways ends number columns reserved reserved' count count' numbers outboxes places has same long = subst (λ (z : List ℕ × ℕ). HasWays ends number columns z.0 z.1 numbers outboxes places) (λ i. (same i, long i)) has
+-- ---- its outboxes
 
 pub new-requires-clause-new : goal.new-requires-clause-new
 new-requires-clause-new g c =
     let s = c.requires.starts in
-    let made = c.in_ok-ways.ways in
-    let columns = c.args.columns.now.items in
-    let inboxes = map inbox_view c.args.inboxes.now in
-    let has = as-ways g.M.Mailbox.ends c.args.number columns c.as_slice.result.now c.args.places.now.targets (length c.args.inboxes.now) (length inboxes) made.numbers.items made.outboxes.items made.places.items
-    c.in_ok-ways.ensures.ways (c.as_slice.ensures.value ∙ ap (λ (p : PlacesView). p.targets) c.places.view_is) (sym (inboxes-count c.args.inboxes.now)) in
-    outboxes-new g.M.Mailbox.ends s.lanes s.square c.args.number inboxes columns s.left s.count (inboxes-within c.args.inboxes.now c.args.number c.requires.there)
-    c.args.places.now.targets made.numbers.items made.outboxes.items made.places.items has
+    subst (λ (l : List OutboxView). All IsNew l) (sym (ap (λ (v : WaysView). v.outboxes) c.ways.view_is)) (outboxes-new s.lanes c.args.number c.args.places.now.targets (length s.lanes) c.args.ways s.ways)
 
 pub new-requires-clause-places : goal.new-requires-clause-places
 new-requires-clause-places g c =
-    let has = c.in_ok-ways.ensures.ways in
-    let places = ap (λ (counts : List ℕ). length counts) c.as_slice-2.ensures.value in omega (arith, places, has.outboxes_count, has.places_count)
+    let has = c.requires.starts.ways in
+    let n = has.outboxes_count in
+    let m = has.places_count in
+    let reserved = ap (λ (counts : List ℕ). length counts) c.as_slice.ensures.value in
+    let places = ap (λ (v : WaysView). length v.places) c.ways.view_is in
+    let outboxes = ap (λ (v : WaysView). length v.outboxes) c.ways.view_is in
+    omega (arith, n, m, reserved, places, outboxes)
 
 pub new-requires-clause-few : goal.new-requires-clause-few
-new-requires-clause-few g c = let has = c.in_ok-ways.ensures.ways in omega (arith, has.few, has.outboxes_count, c.requires.few)
+new-requires-clause-few g c =
+    let s = c.requires.starts in
+    let few = s.ways.few in
+    let n = s.ways.outboxes_count in
+    let count = s.count in
+    let outboxes = ap (λ (v : WaysView). length v.outboxes) c.ways.view_is in
+    omega (arith, few, n, count, outboxes, inboxes-count c.args.inboxes.now, c.requires.few)
 
 -- ---- its core
 
@@ -75,15 +65,10 @@ of-core-requires-clause-empty g c = c.in_ok-new-2.ensures.empty
 
 pub of-core-requires-clause-runs : goal.of-core-requires-clause-runs
 of-core-requires-clause-runs g c =
-    let made = c.in_ok-ways.ways in
     let o = c.in_ok-new.ensures in
-    let columns = c.args.columns.now.items in
-    let inboxes = map inbox_view c.args.inboxes.now in
-    let has = as-ways g.M.Mailbox.ends c.args.number columns c.as_slice.result.now c.args.places.now.targets (length c.args.inboxes.now) (length inboxes) made.numbers.items made.outboxes.items made.places.items
-    c.in_ok-ways.ensures.ways (c.as_slice.ensures.value ∙ ap (λ (p : PlacesView). p.targets) c.places.view_is) (sym (inboxes-count c.args.inboxes.now)) in
-    starts-running g.M.Mailbox.ends g.N.OwnNodes.view_of g.N.OwnNodes.stands inboxes c.args.number c.args.own columns c.args.nodes c.args.places.now c.requires.starts (inboxes-within c.args.inboxes.now c.args.number c.requires.there)
-    made.numbers.items made.outboxes.items made.places.items has g.W.Named.world c.in_ok-new.field-0 o.outboxes o.ways o.waits (o.places ∙ ap (λ (counts : List ℕ). map no_stops counts) c.as_slice-2.ensures.value)
-    c.in_ok-new-2.field-0 c.in_ok-new-2.ensures.empty
+    starts-running g.M.Mailbox.ends g.N.OwnNodes.view_of g.N.OwnNodes.stands (map inbox_view c.args.inboxes.now) c.args.number c.args.own c.args.ways c.args.nodes c.args.places.now c.requires.starts (inboxes-within c.args.inboxes.now c.args.number c.requires.there)
+    g.W.Named.world c.in_ok-new.field-0 (o.outboxes ∙ ap (λ (v : WaysView). v.outboxes) c.ways.view_is) (o.ways ∙ ap (λ (v : WaysView). v.numbers) c.ways.view_is) o.waits
+    (o.places ∙ ap (λ (counts : List ℕ). map no_stops counts) (c.as_slice.ensures.value ∙ ap (λ (v : WaysView). v.places) c.ways.view_is)) c.in_ok-new-2.field-0 c.in_ok-new-2.ensures.empty
 
 -- ---- the executor
 
@@ -103,7 +88,7 @@ pub new-requires-3-clause-taking : goal.new-requires-3-clause-taking
 new-requires-3-clause-taking g c =
     subst (λ (z : Core _ _ g.row.N.Denot _ _ × g.row.M-Taker.Denot). IsTaking z.0.number (g.N.OwnNodes.view_of z.0.nodes).lanes (g.M.Mailbox.ends.takes_of z.1).counts)
     (λ i. (sym c.of-core.ensures.value i, sym (ap (λ (o : OwnView g.row.M-Taker.Denot). o.taker) c.own.view_is) i))
-    (starts-taking g.M.Mailbox.ends g.N.OwnNodes.view_of g.N.OwnNodes.stands (map inbox_view c.args.inboxes.now) c.args.number c.args.own c.args.columns.now.items c.args.nodes c.args.places.now c.requires.starts (inboxes-within c.args.inboxes.now c.args.number c.requires.there))
+    (starts-taking g.M.Mailbox.ends g.N.OwnNodes.view_of g.N.OwnNodes.stands (map inbox_view c.args.inboxes.now) c.args.number c.args.own c.args.ways c.args.nodes c.args.places.now c.requires.starts (inboxes-within c.args.inboxes.now c.args.number c.requires.there))
 
 pub new-requires-3-clause-fresh : goal.new-requires-3-clause-fresh
 new-requires-3-clause-fresh g c =

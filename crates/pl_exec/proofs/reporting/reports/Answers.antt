@@ -1,10 +1,10 @@
-use Rattle.std.proofs.Common.{◌++◌, ◌∷◌, [], List, length, refl, ap, sym, subst, ◌∙◌, arith, append_assoc}
+use Rattle.std.proofs.Common.{List, length, refl, subst, arith}
 use Rattle.std.specs.List.{AllZip}
 use Rattle.std.proofs.lemmas.List.{nil_from_length}
 use Rattle.pl_event.proofs.Lists.{zip_push}
 use Rattle.pl_exec.specs.declared.reporting.Found.{Found}
 use Rattle.pl_exec.specs.Reported.{IsFinalReport}
-use Rattle.pl_exec.proofs.ListSteps.{at-next, all-done}
+use Rattle.pl_exec.proofs.ListSteps.{all-done, at-next, one-more}
 use Rattle.pl_exec.proofs.RunReports.{both-there, run-report}
 use Rattle.pl_exec.proofs.reporting.reports.Goals as goal
 
@@ -21,7 +21,7 @@ loop-found-preserved g c =
     let done = c.loop-found.yielded in
     let found = c.in-Some.found in
     record {
-      rest = append_assoc done (found ∷ []) c.next.new.self.rest.items ∙ ap (λ (t : List (Found g.row.T.Denot)). done ++ t) (sym c.in-Some.ensures.steps.0) ∙ inv.rest;
+      rest = one-more c.args.all.items done c.loop-found.found-iterator.rest.items c.next.new.self.rest.items found c.in-Some.ensures.steps.0 inv.rest;
       reported = rw c.in_ok-push.ensures.items (zip_push (IsFinalReport g.T.Transport.state) done c.loop-found.reports.items found c.in_ok-report_from.field-0 inv.reported c.in_ok-report_from.ensures);
     }
 

@@ -1,14 +1,7 @@
-use Rattle.std.proofs.Common.{map}
-use Rattle.pl_exec.specs.SessionWords.{recorded_marks}
-use Rattle.pl_exec.proofs.SeatLemmas.{each-new}
 use Rattle.pl_exec.proofs.running.run_with.Goals as goal
 
-pub run_world_with-requires-clause-seated : goal.run_world_with-requires-clause-seated
-run_world_with-requires-clause-seated g c =
-    λ κs live. each-new c.args.words.now (map recorded_marks c.args.session.world.channels) c.args.seats c.in_ok-seats.seats.items c.in_ok-seats.ensures.each c.requires.seats c.requires.marks c.in_ok-seats.ensures.unused
-
 pub returns-clause-report : goal.returns-clause-report
-returns-clause-report g c = c.run_world_with.ensures.report
+returns-clause-report g c = c.in_ok-report.ensures.report
 
 pub returns-clause-entered : goal.returns-clause-entered
-returns-clause-entered g c = c.run_world_with.ensures.entered
+returns-clause-entered g c = c.in_ok-report.ensures.entered

@@ -1,12 +1,12 @@
 use Rattle.std.specs.Global.{Vec}
-use Rattle.std.proofs.Common.{◌≡◌, ◌++◌, [], ◌∷◌, ℕ, List, length, refl, ap, sym, subst, ◌∙◌, arith, append_assoc, length-append}
+use Rattle.std.proofs.Common.{◌≡◌, [], ◌∷◌, ℕ, List, length, refl, ap, sym, subst, ◌∙◌, arith, length-append}
 use Rattle.std.specs.Option.{option_map}
 use Rattle.std.proofs.lemmas.List.{length-map, map-append, nil_from_length}
 use Rattle.std.proofs.lemmas.Option.{slice_get-map}
 use Rattle.pl_event.proofs.Lists.{All-at}
 use Rattle.pl_exec.specs.ChannelRows.{IsChannelRow}
 use Rattle.pl_exec.specs.Sharing.{AreRests, AreShared, HasShares, rows_in}
-use Rattle.pl_exec.proofs.ListSteps.{all-done, at-next}
+use Rattle.pl_exec.proofs.ListSteps.{all-done, at-next, one-more}
 use Rattle.pl_exec.proofs.SharesMade.{AreLeftFor, all-left, executor-shared, next-left, none-shared, shares-of-whole}
 use Rattle.pl_exec.proofs.sharing.shares.Goals as goal
 
@@ -46,7 +46,7 @@ loop-here-preserved g c =
     let has : HasShares g.S.Stage.meaning g.S.Stage.stands_after g.T.Transport.state c.loop-here.left.items c.args.words.now c.loop-here.seats.items (length done) row.items nodes =
     subst (λ (n : ℕ). HasShares g.S.Stage.meaning g.S.Stage.stands_after g.T.Transport.state c.loop-here.left.items c.args.words.now c.loop-here.seats.items n row.items nodes) number made.shares in
     record {
-      rest = append_assoc done (row ∷ []) c.next.new.self.rest.items ∙ ap (λ (l : List (Vec ℕ)). done ++ l) (sym c.in-Some.ensures.steps.0) ∙ inv.rest;
+      rest = one-more c.args.rows.items done c.loop-here.here-iterator.rest.items c.next.new.self.rest.items row c.in-Some.ensures.steps.0 inv.rest;
       shared =
           subst (λ (rows : List (List ℕ)). AreShared g.S.Stage.meaning g.S.Stage.stands_after g.T.Transport.state wholes c.args.words.now heads rows c.push.new.self.items) (sym (map-append (λ (r : Vec ℕ). r.items) done (row ∷ [])))
           (executor-shared g.S.Stage.meaning g.S.Stage.stands_after g.T.Transport.state wholes c.args.words.now heads (rows_in done) row.items all.items c.push.new.self.items nodes c.in_ok-push.ensures.items

@@ -1,7 +1,7 @@
-use Rattle.std.proofs.Common.{◌++◌, [], ◌∷◌, List, Option, Some, map, ap, subst, sym, ◌∙◌, arith, append_assoc}
+use Rattle.std.proofs.Common.{◌++◌, [], ◌∷◌, List, Option, Some, map, ap, subst, sym, ◌∙◌, arith}
 use Rattle.std.proofs.lemmas.List.{map-append, nil_from_length}
 use Rattle.pl_exec.specs.SessionWords.{AreUnused, SeatsView}
-use Rattle.pl_exec.proofs.ListSteps.{all-done}
+use Rattle.pl_exec.proofs.ListSteps.{all-done, one-more}
 use Rattle.pl_exec.proofs.words.HeadSeats.by_channel.Goals as goal
 
 pub loop-own-init : goal.loop-own-init
@@ -13,7 +13,7 @@ loop-own-preserved c =
     let done = c.loop-own.yielded in
     let own = c.in-Some.own in
     record {
-      rest = append_assoc done (own ∷ []) c.next.new.self.rest.items ∙ ap (λ (l : List SeatsView). done ++ l) (sym c.in-Some.ensures.steps.0) ∙ inv.rest;
+      rest = one-more c.args.self done c.loop-own.own-iterator.rest.items c.next.new.self.rest.items own c.in-Some.ensures.steps.0 inv.rest;
       made = c.in_ok-push.ensures.items ∙ ap (λ (l : List (Option SeatsView)). l ++ Some own ∷ []) inv.made ∙ sym (map-append (λ (s : SeatsView). Some s) done (own ∷ []));
     }
 

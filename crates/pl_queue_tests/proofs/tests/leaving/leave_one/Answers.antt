@@ -18,4 +18,4 @@ offer_one-requires-2-clause-fits g c = event-fits g.W.Named.world c.args.lane 1 
 pub finish-requires-clause-all : goal.finish-requires-clause-all
 finish-requires-clause-all g c =
     one-sender g.M.Mailbox.ends.sends_of c.new-senders.result.items c.push.new.self.items c.offer_one-2.new.sender (g.M.Mailbox.ends.takes_of c.take_one.new.taker) c.args.lane c.new-senders.ensures.items c.in-Ok-push.ensures.items
-    (c.offer_one-2.ensures.lanes ∙ c.offer_one.ensures.lanes ∙ c.in-Ok.ensures.sender.1.1) (c.take_one.ensures.lanes ∙ c.in-Ok.ensures.taker.1)
+    (c.offer_one-2.ensures.still.1 ∙ c.offer_one.ensures.still.1 ∙ c.in-Ok.ensures.sender.1.1) (c.take_one.ensures.1 ∙ c.in-Ok.ensures.taker.1)

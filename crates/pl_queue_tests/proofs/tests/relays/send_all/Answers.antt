@@ -11,9 +11,9 @@ loop-number-preserved g c =
     let inv = c.loop-number.invariant in
     let told = c.if-not-offer_one.ensures in
     record {
-      sender = told.sender;
+      sender = told.still.0;
       sent = event-sent c.args.lane c.loop-number.number (g.M.Mailbox.ends.sends_of c.loop-number.sender) (g.M.Mailbox.ends.sends_of c.offer_one.new.sender) c.event.result c.event.ensures (told.sent refl) inv.sent;
-      lanes = told.lanes ∙ inv.lanes;
+      lanes = told.still.1 ∙ inv.lanes;
     }
 
 pub offer_one-sent-requires-clause-fits : goal.offer_one-sent-requires-clause-fits
