@@ -9,4 +9,7 @@ words=$(find . -name '*.md' -not -path '*/out/*' -not -path './.*' -exec cat {} 
 told() { grep -qz "$1[[:space:]]$2" README.md || { echo "pages: README does not tell of $1 $2"; status=1; }; }
 told "$(find crates -path '*/must-fail/*.edit' | wc -l)" 'wrong'
 told "$(grep -rhF '#[test]' crates/*/src --include='*.rt' | wc -l)" 'tests'
+for kit in $(grep -v '^#' crates.txt | sed 's/^[^:]*://' | tr ' ' '\n' | grep -v '^pl_' | sort -u); do
+  grep -q "\`$kit\`" README.md || { echo "pages: README does not say that $kit is trusted"; status=1; }
+done
 exit $status
