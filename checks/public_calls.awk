@@ -208,7 +208,7 @@ END {
         is_begun = 0
         for (i = 1; i <= calls; i++) {
             if (crate_of[i] != order[c]) continue
-            answer = answer_of[i] in alias ? alias[answer_of[i]] : answer_of[i]
+            answer = bare(answer_of[i]) in alias ? alias[bare(answer_of[i])] : answer_of[i]
             if (needed[i] == "" && !waits[i] && answer !~ /^(Result|Option)</) {
                 if (is_for_c[i]) for_c = joined(for_c, name_of[i])
                 else total = joined(total, name_of[i])

@@ -18,12 +18,12 @@ Every call that code outside its crate can make, from the lowest library up. Wha
 [PROMISES.md](PROMISES.md#total-calls): none does anything undefined, and each returns but those that may wait.
 `checks/public_calls.sh` writes this page from the sources.
 
-A condition is a `requires` of the call's contract: here is its name, or the whole of it where it has none. Whoever makes
-the call proves it, or is not built. A call refuses with the error of its `Result`, or with `None`, an `add` with `Some`; or an
-enum says what it did. What each of these may be is [at the end](#refusals-and-outcomes), but for std's `AllocError` and
-`AllocFailed`, which say that memory was refused. Calls without a condition that refuse nothing stand below the table of their
-crate. The calls of a trait stand there once, for all types that have it; those of std's traits have no condition. A function
-whose name ends in `_law` does nothing: what it is for is its contract.
+A condition is a `requires` of the call's contract: here is its name, or the whole of it where it has none. Whoever
+makes the call proves it, or is not built. A call refuses with the error of its `Result`, or with `None`, an `add` with
+`Some`; or an enum says what it did. What each of these may be is [at the end](#refusals-and-outcomes), but for std's
+`AllocError` and `AllocFailed`, which say that memory was refused. Calls without a condition that refuse nothing stand
+below the table of their crate. The calls of a trait stand there once, for all types that have it; those of std's traits
+have no condition. A function whose name ends in `_law` does nothing: what it is for is its contract.
 HEAD
   sed -n 's/^\(pl_[a-z_]*\).*:.*/\1/p' crates.txt | while read -r crate; do
     case $crate in

@@ -13,13 +13,12 @@ ghost use Rattle.pl_build.specs.Counts.{executor_now};
 use crate::faults::BuildFault;
 use crate::grouping::Groups;
 use crate::limits::{DEFAULT_HIGH, DEFAULT_LOW, MAX_HANDLERS, MAX_MARK};
-use crate::named_stages::{NamedStage, Unadded};
+use crate::named_stages::{Inserted, NamedStage, Unadded};
 use crate::names::is_name;
 use crate::placed::Placed;
 use crate::splitting::{Chains, Room, hop_executors, split};
 use pl_event::Stage;
 use std::alloc::Global;
-use std::fmt;
 use std::marker::Model;
 
 /// A pipeline that is being built: handlers in order, each with a name of its own and perhaps in a group of executors,
@@ -43,20 +42,13 @@ impl<S: Stage> Model for PipelineBuilder<S> {
     ghost invariant = { λ b. IsPipeline S.stands_after (record { handlers = b.handlers.items; low = b.low; high = b.high }) };
 }
 
-/// What a refused build returns.
+/// What a refused build returns. It prints by its fault, since a stage need not have a `Debug`.
 #[derive(Drop)]
+#[derive_where(Debug)]
 pub struct Unbuilt<S: Stage> {
     pub fault: BuildFault,
+    #[derive_where(skip)]
     pub builder: PipelineBuilder<S>,
-}
-
-/// By its fault, since a stage need not have a `Debug`.
-impl<S: Stage> fmt::Debug for Unbuilt<S> {
-    fn fmt<W: fmt::Write>(&self, f: &mut fmt::Formatter<W>) -> fmt::Result {
-        f.debug_struct("Unbuilt")
-            .field("fault", &self.fault)
-            .finish_non_exhaustive()
-    }
 }
 
 impl<S: Stage> From<Unbuilt<S>> for BuildFault {
@@ -84,7 +76,7 @@ impl<S: Stage> PipelineBuilder<S> {
     /// Adds a handler before all others. Refused as `Limit` where the name is not 1 to `MAX_NAME_LENGTH` bytes or
     /// `MAX_HANDLERS` handlers are there, then as `DuplicateName`, then as `Memory`; the stage comes back, and the builder
     /// is unchanged.
-    pub fn add_first(&mut self, name: &str, group: Option<&str>, stage: S) -> Result<(), Unadded<S>>
+    pub fn add_first(&mut self, name: &str, group: Option<&str>, stage: S) -> Inserted<S>
         requires { S.stands_after stage [] }
         ensures added { OnOk result (self.new ≡ record self.old { handlers = handler_of name.now (option_copied group.entry) stage ∷ self.old.handlers }) }
         ensures allowed { OnOk result (naming_fault name.now self.old.handlers ≡ None) }
@@ -99,7 +91,7 @@ impl<S: Stage> PipelineBuilder<S> {
     }
 
     /// Adds a handler after all others. Refused as `add_first` is.
-    pub fn add_last(&mut self, name: &str, group: Option<&str>, stage: S) -> Result<(), Unadded<S>>
+    pub fn add_last(&mut self, name: &str, group: Option<&str>, stage: S) -> Inserted<S>
         requires { S.stands_after stage [] }
         ensures added { OnOk result (self.new ≡ record self.old { handlers = self.old.handlers ++ handler_of name.now (option_copied group.entry) stage ∷ [] }) }
         ensures allowed { OnOk result (naming_fault name.now self.old.handlers ≡ None) }
@@ -115,13 +107,7 @@ impl<S: Stage> PipelineBuilder<S> {
     }
 
     /// Adds a handler just before the handler `at`. Refused as `add_first` is, and as `NoSuchName` before `Memory`.
-    pub fn add_before(
-        &mut self,
-        at: &str,
-        name: &str,
-        group: Option<&str>,
-        stage: S,
-    ) -> Result<(), Unadded<S>>
+    pub fn add_before(&mut self, at: &str, name: &str, group: Option<&str>, stage: S) -> Inserted<S>
         requires { S.stands_after stage [] }
         ensures added { OnOk result (IfSome (index_of at.now self.old.handlers) (λ index. self.new ≡ record self.old { handlers = insert self.old.handlers index (handler_of name.now (option_copied group.entry) stage) })) }
         ensures allowed { OnOk result (beside_fault at.now name.now self.old.handlers ≡ None) }
@@ -136,13 +122,7 @@ impl<S: Stage> PipelineBuilder<S> {
     }
 
     /// Adds a handler just after the handler `at`. Refused as `add_before` is.
-    pub fn add_after(
-        &mut self,
-        at: &str,
-        name: &str,
-        group: Option<&str>,
-        stage: S,
-    ) -> Result<(), Unadded<S>>
+    pub fn add_after(&mut self, at: &str, name: &str, group: Option<&str>, stage: S) -> Inserted<S>
         requires { S.stands_after stage [] }
         ensures added { OnOk result (IfSome (index_of at.now self.old.handlers) (λ index. self.new ≡ record self.old { handlers = insert self.old.handlers (index + 1) (handler_of name.now (option_copied group.entry) stage) })) }
         ensures allowed { OnOk result (beside_fault at.now name.now self.old.handlers ≡ None) }
@@ -258,13 +238,7 @@ impl<S: Stage> PipelineBuilder<S> {
     }
 
     /// Inserts a handler at an index. An `Err` says that memory ran out, and changes nothing.
-    fn insert(
-        &mut self,
-        index: usize,
-        name: &str,
-        group: Option<&str>,
-        stage: S,
-    ) -> Result<(), Unadded<S>>
+    fn insert(&mut self, index: usize, name: &str, group: Option<&str>, stage: S) -> Inserted<S>
         requires new { S.stands_after stage [] }
         requires index { index ≤ length self.old.handlers }
         requires room { length self.old.handlers < MAX_HANDLERS }

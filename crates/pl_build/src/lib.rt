@@ -16,5 +16,5 @@ pub use grouping::Groups;
 pub use limits::{
     DEFAULT_HIGH, DEFAULT_LOW, MAX_EXECUTORS, MAX_HANDLERS, MAX_MARK, MAX_NAME_LENGTH,
 };
-pub use named_stages::{NamedStage, Unadded};
+pub use named_stages::{Inserted, NamedStage, Unadded};
 pub use placed::Placed;

@@ -12,7 +12,6 @@ use crate::faults::BuildFault;
 use crate::names::{has_text, kept};
 use pl_event::{ByteString, Stage};
 use std::alloc::{AllocError, Global};
-use std::fmt;
 
 /// A handler of a pipeline: a stage under its name, in a group of executors or in none.
 #[derive(Drop)]
@@ -22,21 +21,17 @@ pub struct NamedStage<S> {
     pub(crate) stage: S,
 }
 
-/// What a refused add returns.
+/// What a refused add returns. It prints by its fault, since a stage need not have a `Debug`.
 #[derive(Drop)]
+#[derive_where(Debug)]
 pub struct Unadded<S> {
     pub fault: BuildFault,
+    #[derive_where(skip)]
     pub stage: S,
 }
 
-/// By its fault, since a stage need not have a `Debug`.
-impl<S> fmt::Debug for Unadded<S> {
-    fn fmt<W: fmt::Write>(&self, f: &mut fmt::Formatter<W>) -> fmt::Result {
-        f.debug_struct("Unadded")
-            .field("fault", &self.fault)
-            .finish_non_exhaustive()
-    }
-}
+/// What a call that adds a handler gives: nothing, or the refused stage with its fault.
+pub type Inserted<S> = Result<(), Unadded<S>>;
 
 impl<S: Drop> From<Unadded<S>> for BuildFault {
     ghost from_gives = { λ unadded e. e ≡ unadded.fault };

@@ -3,7 +3,7 @@
 ghost use Rattle.std.specs.Prelude.{◌≡◌, [], false, refl};
 ghost use Rattle.pl_build_tests.specs.declared.sample.Small.{Small};
 
-use pl_build::{BuildFault, Groups, PipelineBuilder, Placed, Unadded};
+use pl_build::{BuildFault, Groups, Inserted, PipelineBuilder, Placed};
 use pl_event::{Direction, Event, Stage, Stepped, Turned};
 use std::alloc::Global;
 use std::process::Abort;
@@ -60,7 +60,7 @@ pub(crate) fn turn(number: u8) -> Small {
 }
 
 /// Why an add was refused, without the stage that it hands back.
-pub(crate) fn fault_of(answer: Result<(), Unadded<Small>>) -> Result<(), BuildFault> {
+pub(crate) fn fault_of(answer: Inserted<Small>) -> Result<(), BuildFault> {
     Ok(answer?)
 }
 

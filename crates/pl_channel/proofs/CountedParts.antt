@@ -21,9 +21,9 @@ module _ {S T : Type 0} (p : ChannelPartView S T) where
   hops_of x y = length (hops_between x y p)
 
   module _ (start now : List (List ℕ)) (hop : ℕ) (so_far : Counts start now (hops_before hop)) where
-    module _ (writer origin target : ℕ) (by : writer ≡ writer_hop p.path hop) (from : origin ≡ get_or p.path.executors writer 0) (to : target ≡ get_or p.path.executors hop 0) where
+    module _ (origin target : ℕ) (from : origin ≡ get_or p.path.executors (writer_hop p.path hop) 0) (to : target ≡ get_or p.path.executors hop 0) where
       one-is : (x y : ℕ) → one_more origin target x y ≡ cond (goes_between x y p hop) 1 0
-      one-is x y = ap (λ (n : ℕ). one_more n target x y) (from ∙ ap (λ (w : ℕ). get_or p.path.executors w 0) by) ∙ ap (λ (n : ℕ). one_more (get_or p.path.executors (writer_hop p.path hop) 0) n x y) to
+      one-is x y = ap (λ (n : ℕ). one_more n target x y) from ∙ ap (λ (n : ℕ). one_more (get_or p.path.executors (writer_hop p.path hop) 0) n x y) to
 
       pub hop-room : hop < length p.path.executors → HasRoom start hops_of → HasRoom now (one_more origin target)
       hop-room within had = room-left start now (hops_before hop) (one_more origin target) hops_of had so_far (λ x y.

@@ -174,10 +174,8 @@ module _ {S T : Type 0} (ps : List (ChannelPartView S T)) (c : ℕ) (p p' : Chan
     part-stands = stands.parts c p was
 
     -- the last hop is the head's
-    pub home-last : (hops executor : ℕ) → hops ≡ length p.path.executors → executor ≡ executor_at p (hops - 1) → executor ≡ home_of ps c
-    home-last hops executor e is =
-        let h = part-stands.holds.hops in
-        let last : hops - 1 ≡ head_hop p = omega (arith, e, h) in
+    pub home-last : (hop executor : ℕ) → hop ≡ head_hop p → executor ≡ executor_at p hop → executor ≡ home_of ps c
+    home-last hop executor last is =
         is ∙ ap (λ (k : ℕ). executor_at p k) last ∙ sym (at-was (λ (q : ChannelPartView S T). executor_at q (head_hop q)) 0 c refl)
 
     pub below : p.path.tail_hop < head_hop p

@@ -2,7 +2,8 @@
 
 ghost use Rattle.std.specs.Prelude.{◌≡◌, ◌+◌, ◌<◌, ◌^◌, IfOk, length, map, get_or, set, replicate};
 ghost use Rattle.std.specs.List.{range_with_len};
-ghost use Rattle.pl_channel.specs.Channels.{data_lanes_of};
+ghost use Rattle.pl_part.specs.Paths.{writer_hop};
+ghost use Rattle.pl_channel.specs.Channels.{data_lanes_of, executor_at};
 ghost use Rattle.pl_channel.specs.Ways.{HasExecutors, ArePlaceable, HasRoom, Counts, one_more, lanes_between, hops_between};
 
 use pl_event::Stage;
@@ -44,8 +45,17 @@ fn count_part<S: Stage, T: Transport>(table: &mut Vec<Vec<u16>>, part: &ChannelP
     ensures { Counts (map (λ row. row.items) table.old.items) (map (λ row. row.items) table.new.items) (λ x y. length (hops_between x y part.now)) }
 {
     for hop in 0..part.hops() {
-        count_lane(table, part.target(part.writer(hop)), part.target(hop));
+        count_lane(table, origin_of(part, hop), part.target(hop));
     }
+}
+
+/// The executor that the lanes of a hop come from.
+pub fn origin_of<S: Stage, T: Transport>(part: &ChannelPart<S, T>, hop: usize) -> usize
+    requires hops { HasExecutors part.now }
+    requires there { hop < length part.now.path.executors }
+    ensures { result ≡ executor_at part.now (writer_hop part.now.path hop) }
+{
+    part.target(part.writer(hop))
 }
 
 /// Counts a lane from one executor to another, if the table has both.

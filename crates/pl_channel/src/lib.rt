@@ -6,6 +6,6 @@ mod lane_counts;
 mod recorded_parts;
 mod reports;
 
-pub use lane_counts::{lane_count, places_between};
+pub use lane_counts::{lane_count, origin_of, places_between};
 pub use recorded_parts::{whole_part, whole_parts};
 pub use reports::{into_report, report, standing};

@@ -26,8 +26,8 @@ use Rattle.pl_context.specs.Standings.{has_failed}
 use Rattle.pl_context.specs.Stops.{StopsView, has_stopped}
 use Rattle.pl_context.specs.OutputsViews.{OutputsView, PutsAll, Appends}
 use Rattle.pl_context.specs.Ports.{as_items, all_go_on, end_after, numbered, offered, put_out, port_after}
-use Rattle.pl_context.specs.ContextViews.{ContextView}
-use Rattle.pl_context.specs.Contexts.{last_item, GivesLast, ups, downs, offers, counted, closed, IsSmall, ChangesOne, ChangesItem, Runs, RunsOut, MakesFew, TakesEvent, TakesItem}
+use Rattle.pl_context.specs.ContextViews.{ContextView, SameNode}
+use Rattle.pl_context.specs.Contexts.{last_item, GivesLast, ups, downs, offers, counted, closed, PutsNone, IsSmall, ChangesOne, ChangesItem, Runs, RunsOut, MakesFew, TakesEvent, TakesItem, TakesData}
 use Rattle.pl_context.proofs.PortLemmas.{port_after-nil, put_out-nil, puts_all-from, puts_all-append, appends-append, all_go_on-events, all_go_on-append, numbered-append, length-numbered}
 
 -- both ports were given the last item
@@ -169,6 +169,11 @@ appends-from a b c up down above below i s r h =
       room = omega (arith, r, h.room);
     } in
     subst (λ (t : StopsView). Appends a (put_out t up above ++ put_out t down below) c) s from
+
+-- Where there is not room for what both ports would be given, they and the list are as they were.
+pub none-put : (above below : List Item) (p q : Port) (before after : OutputsView) → after.items ≡ before.items → after.stopped ≡ before.stopped → before.room ≤ after.room
+    → before.room < length (offers p q above below) → PutsNone above below p q before p q after
+none-put above below p q before after items stopped room why = record { up = refl; down = refl; items = items; stopped = stopped; room = room; why = why }
 
 -- ---- a step, from what its stage made
 
@@ -338,6 +343,20 @@ module _ {S : Type 0} (meaning : S → Meaning) (stands_after : S → List Event
       (subst (λ (k : Item). TakesItem meaning stands_after is_spent (counted Data v) k before answer c' after) f
       (subst (λ (s : S). TakesItem meaning stands_after is_spent (record (counted Data v) { stage = s }) j before answer c' after) e takes))
 
+  -- One that was open took an item by which its stage, which was not spent, has changed.
+  pub takes-open : (v w : ContextView S) → v ≡ w → (i : Item) (before after : OutputsView) (answer : Took) (c' : ContextView S)
+      → v.standing ≡ standings.Open → (is_spent v.stage ≡ true → ⊥) → meaning c'.stage ≡ meaning v.stage → SameNode (counted Data v) c'
+      → TakesItem meaning stands_after is_spent (counted Data w) i before answer c' after
+      → TakesData meaning stands_after is_spent (counted Data w) i before answer c' after
+  takes-open v w seen i before after answer c' was unspent same place takes = record {
+    same_meaning = same ∙ ap (λ (c : ContextView S). meaning c.stage) seen;
+    same_node = subst (λ (c : ContextView S). SameNode (counted Data c) c') seen place;
+    takes = λ _. takes;
+    spent = λ _ spent x is. absurd (unspent (ap (λ (c : ContextView S). is_spent c.stage) seen ∙ spent));
+    ended = λ e. absurd (open-ended v w seen was e);
+    dropped = λ e. absurd (open-failed v w seen was e);
+  }
+
   -- an item that its stage changed goes up, and others down
   pub takes-up : (v w : ContextView S) → v ≡ w → (i j : Item) (made below : List Event) (before after : OutputsView) (stage : S) (up down : Port)
       → ChangesItem meaning stands_after v.stage i Up stage j made
@@ -378,29 +397,27 @@ module _ {S : Type 0} (meaning : S → Meaning) (stands_after : S → List Event
   pub takes-fault : (v w : ContextView S) → v ≡ w → (i j : Item) (made below : List Event) (before mid after : OutputsView) (stage : S) (up down : Port) (c' : ContextView S) (answer : Took)
       → ChangesItem meaning stands_after v.stage i Up stage j made
       → below ≡ made
-      → up ≡ v.up → down ≡ v.down
-      → mid.items ≡ before.items → mid.stopped ≡ before.stopped → before.room ≤ mid.room
-      → before.room < length (offers v.up v.down (j ∷ []) (as_items below))
+      → PutsNone (j ∷ []) (as_items below) v.up v.down before up down mid
       → answer ≡ took.Failed Memory
       → GivesLast (standings.Failed Memory) (record (counted Data v) { stage = stage; up = up; down = down }) mid c' after
       → TakesItem meaning stands_after is_spent (counted Data w) i before answer c' after
-  takes-fault v w seen i j made below before mid after stage up down c' answer h all e f items_kept stopped_kept grows less is closes =
+  takes-fault v w seen i j made below before mid after stage up down c' answer h all kept is closes =
       let c = counted Data v in
       let full = standings.Failed Memory in
       let stage_is : c'.stage ≡ stage = ap (λ (k : ContextView S). k.stage) closes.context in
       let given = item.Fail Memory ∷ [] in
       let less' : before.room < length (offers c.up c.down (item.Event h.1 ∷ []) (as_items made)) =
       subst (λ (ys : List Event). before.room < length (offers c.up c.down (item.Event h.1 ∷ []) (as_items ys))) all
-      (subst (λ (k : Item). before.room < length (offers c.up c.down (k ∷ []) (as_items below))) h.3 less) in
+      (subst (λ (k : Item). before.room < length (offers c.up c.down (k ∷ []) (as_items below))) h.3 kept.why) in
       let out : RunsOut meaning stands_after is_spent c h.0 before c' after = record {
         closes = record {
           context = closes.context
-              ∙ ap (λ (p : Port). closed full (record c { stage = stage; up = p; down = down })) e
-              ∙ ap (λ (p : Port). closed full (record c { stage = stage; down = p })) f
+              ∙ ap (λ (p : Port). closed full (record c { stage = stage; up = p; down = down })) kept.up
+              ∙ ap (λ (p : Port). closed full (record c { stage = stage; down = p })) kept.down
               ∙ ap (λ (s : S). closed full (record c { stage = s })) (sym stage_is);
-          out = puts_all-from before mid after (offers c.up c.down given given) items_kept stopped_kept grows
-              (subst (λ (p : Port). PutsAll mid (offers c.up p given given) after) f
-              (subst (λ (p : Port). PutsAll mid (offers p down given given) after) e closes.out));
+          out = puts_all-from before mid after (offers c.up c.down given given) kept.items kept.stopped kept.room
+              (subst (λ (p : Port). PutsAll mid (offers c.up p given given) after) kept.down
+              (subst (λ (p : Port). PutsAll mid (offers p down given given) after) kept.up closes.out));
         };
         why = λ unspent. offers-changed meaning stands_after c.stage stage h.0 h.1 made c.up c.down before.room h.4 less';
       } in

@@ -15,9 +15,10 @@ use Rattle.pl_context.specs.declared.standing.Standing.{Standing}
 use Rattle.pl_context.specs.declared.standing.Standing.TheVariants as standings
 use Rattle.pl_context.specs.declared.standing.Took.{Took}
 use Rattle.pl_context.specs.declared.standing.Took.TheVariants as took
+use Rattle.pl_context.specs.Standings.{has_failed}
 use Rattle.pl_context.specs.OutputsViews.{OutputsView, PutsAll, Appends}
 use Rattle.pl_context.specs.Ports.{as_items, end_after, offered, put_out, port_after, FlagPasses}
-use Rattle.pl_context.specs.ContextViews.{ContextView}
+use Rattle.pl_context.specs.ContextViews.{ContextView, SameNode}
 use Rattle.pl_event.specs.declared.limits.TheConstants.{MAX_ITEMS}
 
 -- What a stage makes of an event x after the events xs, as items of its two lanes: its end goes down where it has quit.
@@ -36,6 +37,22 @@ last_item (standings.Failed cause) = item.Fail cause
 -- what both lanes are offered, the lane upwards first
 abbrev pub offers : Port → Port → List Item → List Item → List Envelope
 offers up down above below = offered up above ++ offered down below
+
+-- Both ports, the lane upwards and the one downwards, were given these items, and the list had room for all of them: those
+-- that go up come first.
+pub record PutsBoth (above below : List Item) (p q : Port) (before : OutputsView) (p' q' : Port) (after : OutputsView) : Type 0 where
+  pub up : p' ≡ port_after above p
+  pub down : q' ≡ port_after below q
+  pub out : Appends before (put_out before.stopped p above ++ put_out before.stopped q below) after
+
+-- There is not room for all of these items, and nothing is put out.
+pub record PutsNone (above below : List Item) (p q : Port) (before : OutputsView) (p' q' : Port) (after : OutputsView) : Type 0 where
+  pub up : p' ≡ p
+  pub down : q' ≡ q
+  pub items : after.items ≡ before.items
+  pub stopped : after.stopped ≡ before.stopped
+  pub room : before.room ≤ after.room
+  pub why : before.room < length (offers p q above below)
 
 -- a context that took one item more, of this kind
 abbrev pub counted : {S : Type 0} → Kind → ContextView S → ContextView S
@@ -113,6 +130,16 @@ module _ {S : Type 0} (meaning : S → Meaning) (stands_after : S → List Event
   TakesItem c item.End before answer c' after = (answer ≡ took.Ended) × GivesLast standings.Ended c before c' after
   TakesItem c (item.Fail cause) before answer c' after = (answer ≡ took.Failed cause) × GivesLast (standings.Failed cause) c before c' after
   TakesItem c (item.Flag value) before answer c' after = (answer ≡ took.Ran) × (c' ≡ c) × (after ≡ before)
+
+  -- What a context, which has counted it, does with a data item: one that is open takes it, and fails by an event where its
+  -- stage is spent; one that has ended, or has failed, is as it was.
+  pub record TakesData (c : ContextView S) (i : Item) (before : OutputsView) (answer : Took) (c' : ContextView S) (after : OutputsView) : Type 0 where
+    pub same_meaning : meaning c'.stage ≡ meaning c.stage
+    pub same_node : SameNode c c'
+    pub takes : c.standing ≡ standings.Open → TakesItem c i before answer c' after
+    pub spent : c.standing ≡ standings.Open → is_spent c.stage ≡ true → (x : Event) → i ≡ item.Event x → answer ≡ took.Failed Memory
+    pub ended : c.standing ≡ standings.Ended → (answer ≡ took.Ran) × (c' ≡ c) × (after ≡ before)
+    pub dropped : has_failed c.standing ≡ true → (answer ≡ took.Dropped) × (c' ≡ c) × (after ≡ before)
 
 -- the numbers that an item makes are small
 abbrev pub MakesFew : {S : Type 0} → (S → Meaning) → (S → List Event → Type 0) → ContextView S → Item → Type 0

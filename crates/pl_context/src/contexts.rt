@@ -11,11 +11,10 @@ ghost use Rattle.pl_event.specs.Fitting.{goes_on};
 ghost use Rattle.pl_context.specs.declared.standing.Standing.TheVariants as standings;
 ghost use Rattle.pl_context.specs.declared.standing.Took.TheVariants as took;
 ghost use Rattle.pl_context.specs.Stops.{HasPlaces, any_stopped};
-ghost use Rattle.pl_context.specs.OutputsViews.{Appends};
-ghost use Rattle.pl_context.specs.Ports.{end_after, as_items, port_after, put_out};
+ghost use Rattle.pl_context.specs.Ports.{end_after, as_items};
 ghost use Rattle.pl_context.specs.ContextViews.{IsHop, SameNode, new_context, has_up, has_down, down_hop, Enters, kind_taken, one_of, taken_of, number_limit, open_lanes};
 ghost use Rattle.pl_context.specs.Standings.{is_over, has_failed};
-ghost use Rattle.pl_context.specs.Contexts.{StandsAfter, MakesFew, ChangesItem, Runs, GivesLast, TakesEvent, TakesItem, TakesFlag, counted, offers, ups, downs, last_item, IsSmall};
+ghost use Rattle.pl_context.specs.Contexts.{StandsAfter, MakesFew, ChangesItem, Runs, GivesLast, TakesEvent, TakesItem, TakesData, TakesFlag, PutsBoth, PutsNone, counted, offers, ups, downs, last_item, IsSmall};
 ghost use Rattle.pl_event.specs.declared.limits.TheConstants.{MAX_ITEMS};
 
 use crate::outputs::Outputs;
@@ -203,12 +202,7 @@ impl<S: Stage> Context<S> {
         requires limit { self.old.taken < MAX_ITEMS }
         requires few { self.old.standing ≡ standings.Open → MakesFew S.meaning S.stands_after self.old envelope.item }
         requires places { HasPlaces outputs.old.stopped (open_lanes self.old) }
-        ensures meaning { S.meaning self.new.stage ≡ S.meaning self.old.stage }
-        ensures same_node { SameNode (counted kind.Data self.old) self.new }
-        ensures open { self.old.standing ≡ standings.Open → TakesItem S.meaning S.stands_after S.is_spent (counted kind.Data self.old) envelope.item outputs.old result self.new outputs.new }
-        ensures spent { self.old.standing ≡ standings.Open → S.is_spent self.old.stage ≡ true → (event : Event) → envelope.item ≡ items.Event event → result ≡ took.Failed Memory }
-        ensures ended { self.old.standing ≡ standings.Ended → (result ≡ took.Ran) × (self.new ≡ counted kind.Data self.old) × (outputs.new ≡ outputs.old) }
-        ensures dropped { has_failed self.old.standing ≡ true → (result ≡ took.Dropped) × (self.new ≡ counted kind.Data self.old) × (outputs.new ≡ outputs.old) }
+        ensures { TakesData S.meaning S.stands_after S.is_spent (counted kind.Data self.old) envelope.item outputs.old result self.new outputs.new }
     {
         self.taken += 1;
         let changed = change(
@@ -249,12 +243,7 @@ impl<S: Stage> Context<S> {
     fn take_item(&mut self, envelope: Envelope, outputs: &mut Outputs) -> Took
         requires few { self.old.standing ≡ standings.Open → MakesFew S.meaning S.stands_after self.old envelope.item }
         requires places { HasPlaces outputs.old.stopped (open_lanes self.old) }
-        ensures meaning { S.meaning self.new.stage ≡ S.meaning self.old.stage }
-        ensures same_node { SameNode self.old self.new }
-        ensures open { self.old.standing ≡ standings.Open → TakesItem S.meaning S.stands_after S.is_spent self.old envelope.item outputs.old result self.new outputs.new }
-        ensures spent { self.old.standing ≡ standings.Open → S.is_spent self.old.stage ≡ true → (event : Event) → envelope.item ≡ items.Event event → result ≡ took.Failed Memory }
-        ensures ended { self.old.standing ≡ standings.Ended → (result ≡ took.Ran) × (self.new ≡ self.old) × (outputs.new ≡ outputs.old) }
-        ensures dropped { has_failed self.old.standing ≡ true → (result ≡ took.Dropped) × (self.new ≡ self.old) × (outputs.new ≡ outputs.old) }
+        ensures { TakesData S.meaning S.stands_after S.is_spent self.old envelope.item outputs.old result self.new outputs.new }
     {
         let Envelope { item, .. } = envelope;
         match self.standing {
@@ -426,15 +415,8 @@ fn put_changed(
     requires few_up { up.old.is_open ≡ true → up.old.made + 1 ≤ MAX_ITEMS }
     requires few_down { down.old.is_open ≡ true → down.old.made + length below.old.items ≤ MAX_ITEMS }
     ensures empty { below.new.items ≡ [] }
-    ensures up { OnOk result (up.new ≡ port_after (envelope.item ∷ []) up.old) }
-    ensures down { OnOk result (down.new ≡ port_after (as_items below.old.items) down.old) }
-    ensures out { OnOk result (Appends outputs.old (put_out outputs.old.stopped up.old (envelope.item ∷ []) ++ put_out outputs.old.stopped down.old (as_items below.old.items)) outputs.new) }
-    ensures up_kept { OnErr result (up.new ≡ up.old) }
-    ensures down_kept { OnErr result (down.new ≡ down.old) }
-    ensures items { OnErr result (outputs.new.items ≡ outputs.old.items) }
-    ensures stopped { OnErr result (outputs.new.stopped ≡ outputs.old.stopped) }
-    ensures grows { OnErr result (outputs.old.room ≤ outputs.new.room) }
-    ensures why { OnErr result (outputs.old.room < length (offers up.old down.old (envelope.item ∷ []) (as_items below.old.items))) }
+    ensures puts { OnOk result (PutsBoth (envelope.item ∷ []) (as_items below.old.items) up.old down.old outputs.old up.new down.new outputs.new) }
+    ensures none { OnErr result (PutsNone (envelope.item ∷ []) (as_items below.old.items) up.old down.old outputs.old up.new down.new outputs.new) }
 {
     let above = up.places(1);
     match outputs.reserve(above + down.places(below.len())) {
@@ -467,15 +449,8 @@ fn put_made(
     requires few_down { down.old.is_open ≡ true → down.old.made + length below.old.items + length (end_after turned) ≤ MAX_ITEMS }
     ensures up_empty { above.new.items ≡ [] }
     ensures down_empty { below.new.items ≡ [] }
-    ensures up { OnOk result (up.new ≡ port_after (as_items above.old.items) up.old) }
-    ensures down { OnOk result (down.new ≡ port_after (as_items below.old.items ++ end_after turned) down.old) }
-    ensures out { OnOk result (Appends outputs.old (put_out outputs.old.stopped up.old (as_items above.old.items) ++ put_out outputs.old.stopped down.old (as_items below.old.items ++ end_after turned)) outputs.new) }
-    ensures up_kept { OnErr result (up.new ≡ up.old) }
-    ensures down_kept { OnErr result (down.new ≡ down.old) }
-    ensures items { OnErr result (outputs.new.items ≡ outputs.old.items) }
-    ensures stopped { OnErr result (outputs.new.stopped ≡ outputs.old.stopped) }
-    ensures room { OnErr result (outputs.old.room ≤ outputs.new.room) }
-    ensures why { OnErr result (outputs.old.room < length (offers up.old down.old (as_items above.old.items) (as_items below.old.items ++ end_after turned))) }
+    ensures puts { OnOk result (PutsBoth (as_items above.old.items) (as_items below.old.items ++ end_after turned) up.old down.old outputs.old up.new down.new outputs.new) }
+    ensures none { OnErr result (PutsNone (as_items above.old.items) (as_items below.old.items ++ end_after turned) up.old down.old outputs.old up.new down.new outputs.new) }
 {
     let events_up = up.places(above.len());
     let events_down = down.places(below.len());

@@ -121,7 +121,7 @@ impl Port {
         }
     }
 
-    /// Hands a flag on, unless the lane has stopped. It stops where a flag finds no place.
+    /// Hands a flag on, unless the lane has stopped. It stops where a flag finds no room.
     pub fn pass(&mut self, value: bool, outputs: &mut Outputs)
         requires place { self.old.is_open ≡ true → HasPlaces outputs.old.stopped (self.old.lane ∷ []) }
         requires small { self.old.is_open ≡ true → self.old.made + 1 < 2 ^ 64 }

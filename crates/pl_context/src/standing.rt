@@ -1,4 +1,4 @@
-//! How a context or the tail stands, and what it answers.
+//! How a context, a tail or a head stands, and what it answers.
 
 ghost use Rattle.std.specs.Prelude.{◌≡◌};
 ghost use Rattle.pl_context.specs.Standings.{is_over, has_failed, cause_of, together};

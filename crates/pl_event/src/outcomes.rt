@@ -5,7 +5,8 @@
 pub enum Outcome {
     /// Its last byte was accepted by the transport.
     Success,
-    /// It was not flushed when the pipeline ended, or the channel was aborted, or its head ran out of memory.
+    /// It was not flushed when the end or a failure reached the head, or had not left whole when the head was aborted or
+    /// ran out of memory, or came after that.
     Closed,
     /// The transport failed before its last byte.
     Fault,

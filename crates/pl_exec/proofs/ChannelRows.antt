@@ -13,12 +13,21 @@ use Rattle.std.proofs.lemmas.List.Folds.{list_any_more}
 use Rattle.std.proofs.lemmas.List.FromFn.{fill_by_all, get_or-map-range_with_len, length-map-range_with_len}
 use Rattle.std.proofs.lemmas.List.Sums.{position_or_len_is, prefix_len_passes}
 use Rattle.std.proofs.lemmas.Map.Made.{is_member-Decides}
-use Rattle.std.proofs.lemmas.Option.{slice_get-map}
+use Rattle.std.proofs.lemmas.Option.{get_or_from_slice_get, slice_get-map}
+use Rattle.pl_event.proofs.Lists.{All-at, at-index, map-at}
 use Rattle.pl_part.specs.Parts.{ChannelPartView}
 use Rattle.pl_exec.specs.ChannelRows.{IsChannelRow, row_position}
 use Rattle.pl_exec.specs.ExecutorNodes.{numbered_from}
 use Rattle.pl_exec.specs.Sharing.{AreNoted, IsNoted, IsNotedAt, channels_on, rows_in}
 use Rattle.pl_exec.proofs.HeadLists.{in-range, numbered-few, numbered-more, numbered-there, rising}
+
+-- as many rows as there are executors, with nothing in them
+pub rows-none : (rows : List (Vec ℕ)) (count : ℕ) → length rows ≡ count → All (λ row. row.items ≡ []) rows → rows_in rows ≡ map (λ x. []) (range_with_len 0 count)
+rows-none rows count size none =
+    fill_by_all (λ x. []) (rows_in rows) count [] (length-map rows (λ (row : Vec ℕ). row.items) ∙ size)
+    (λ x below.
+    let row = at-index rows x (omega (arith, below, size)) in
+    get_or_from_slice_get (rows_in rows) x row.0.items [] (map-at (λ (v : Vec ℕ). v.items) rows x row.0 row.1) ∙ All-at (λ (v : Vec ℕ). v.items ≡ []) rows x row.0 none row.1)
 
 -- ---- one hop
 

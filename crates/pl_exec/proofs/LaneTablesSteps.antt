@@ -1,7 +1,7 @@
 -- Lists that are made element by element, and the lanes of channels.
-use Rattle.std.proofs.Common.{◌≡◌, ℕ, ◌+◌, ◌<◌, ◌≤◌, List, [], ◌∷◌, ◌++◌, length, map, take, get_or, ap, sym, subst, ◌∙◌, arith, append_assoc}
+use Rattle.std.proofs.Common.{◌≡◌, ℕ, ◌+◌, ◌<◌, ◌≤◌, List, [], ◌∷◌, ◌++◌, length, take, get_or, ap, sym, subst, ◌∙◌, arith, append_assoc}
 use Rattle.std.specs.List.{flat_map, range_with_len}
-use Rattle.std.proofs.lemmas.List.{append-nil, length-take-le, map-id, map_push, take_more}
+use Rattle.std.proofs.lemmas.List.{append-nil, length-take-le, map-id, take_more}
 use Rattle.std.proofs.lemmas.List.Concat.{flat_map-append}
 use Rattle.std.proofs.lemmas.List.FromFn.{map-range_with_len_more}
 use Rattle.pl_event.specs.declared.envelopes.Lane.{Lane}
@@ -21,14 +21,6 @@ joined-more f start before after n was grown =
     ∙ append_assoc start (flat_map f (range_with_len 0 n)) (f n)
     ∙ ap (λ l. start ++ (flat_map f (range_with_len 0 n) ++ l)) (sym (append-nil (f n)))
     ∙ ap (λ l. start ++ l) (sym (flat_map-append f (range_with_len 0 n) (n ∷ [])) ∙ ap (flat_map f) (sym (range-more n)))
-
-pub made-more : {A B : Type 0} (view : A → B) (f : ℕ → B) (before after : List A) (new : A) (n : ℕ) → map view before ≡ map f (range_with_len 0 n) → after ≡ before ++ new ∷ [] → view new ≡ f n
-    → map view after ≡ map f (range_with_len 0 (n + 1))
-made-more view f before after new n was grown is =
-    ap (map view) grown
-    ∙ map_push view before new
-    ∙ (λ i. was i ++ is i ∷ [])
-    ∙ sym (map-range_with_len_more f 0 n n (omega arith))
 
 -- the lanes of a channel with so many hops
 abbrev lanes-of : ℕ → ℕ → List Lane

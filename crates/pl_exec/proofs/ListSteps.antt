@@ -1,5 +1,5 @@
 -- What is left of a list, and its front.
-use Rattle.std.proofs.Common.{◌≡◌, ℕ, zero, suc, ◌+◌, ◌<◌, List, [], ◌∷◌, ◌++◌, drop, length, slice_get, Some, ⊎_elim, ap, sym, subst, ◌∙◌, arith, add-one, append_assoc, append-nil, length-append, length-drop}
+use Rattle.std.proofs.Common.{◌≡◌, ℕ, zero, suc, ◌+◌, ◌<◌, List, [], ◌∷◌, ◌++◌, drop, length, map, slice_get, Some, ⊎_elim, ap, sym, subst, ◌∙◌, arith, add-one, append_assoc, append-nil, length-append, length-drop}
 use Rattle.std.proofs.lemmas.List.{nil_from_length}
 use Rattle.std.proofs.lemmas.Option.{slice_get_within}
 use Rattle.pl_event.proofs.Lists.{slice_get-push, tail-is, slice_get-behind}
@@ -39,6 +39,18 @@ one-more {A = A} all done left rest x front whole = append_assoc done (x ∷ [])
 
 pub all-done : {A : Type 0} (all done left : List A) → left ≡ [] → done ++ left ≡ all → done ≡ all
 all-done {A = A} all done left none whole = sym (append-nil done) ∙ ap (λ (l : List A). done ++ l) (sym none) ∙ whole
+
+-- what was made of the first, with that of what is left, is that of all: so it is with one more made
+pub made-next : {A B : Type 0} (f : A → B) (whole made more : List B) (left rest : List A) (x : A) → left ≡ x ∷ rest → more ≡ made ++ f x ∷ [] → made ++ map f left ≡ whole → more ++ map f rest ≡ whole
+made-next {A = A} {B = B} f whole made more left rest x front added so_far =
+    ap (λ (l : List B). l ++ map f rest) added
+    ∙ append_assoc made (f x ∷ []) (map f rest)
+    ∙ ap (λ (l : List A). made ++ map f l) (sym front)
+    ∙ so_far
+
+-- where none is left, it is all
+pub made-whole : {A B : Type 0} (f : A → B) (whole made : List B) (left : List A) → left ≡ [] → made ++ map f left ≡ whole → made ≡ whole
+made-whole {A = A} f whole made left none so_far = sym (append-nil made) ∙ ap (λ (l : List A). made ++ map f l) (sym none) ∙ so_far
 
 -- of two lists one has as many as the other behind their first
 pub both-behind : {A B : Type 0} (xs xs' : List A) (ys ys' : List B) (x : A) (y : B) → length ys ≡ length xs → xs ≡ x ∷ xs' → ys ≡ y ∷ ys' → length ys' ≡ length xs'

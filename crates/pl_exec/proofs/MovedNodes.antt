@@ -1,7 +1,5 @@
 -- The nodes of an executor stand, whatever one of them has done.
-use Rattle.std.proofs.Common.{◌≡◌, ℕ, ◌+◌, Bool, true, false, List, Some, length, slice_get, ap, sym, ◌∙◌, subst, arith}
-use Rattle.std.specs.Prelude.{◌==◌}
-use Rattle.std.proofs.lemmas.Bool.{both_ways, eq-eqb, ne_eqb}
+use Rattle.std.proofs.Common.{◌≡◌, ℕ, Bool, true, false, List, Some, slice_get, ap, sym, ◌∙◌, subst}
 use Rattle.pl_event.specs.declared.events.Event.{Event}
 use Rattle.pl_event.specs.declared.envelopes.Envelope.{Envelope}
 use Rattle.pl_event.specs.Meaning.{Meaning}
@@ -16,7 +14,7 @@ use Rattle.pl_head.specs.declared.heads.ReadStep.TheVariants as reading
 use Rattle.pl_head.specs.HeadStand.{HeadView}
 use Rattle.pl_head.specs.Transports.{TransportState}
 use Rattle.pl_part.specs.Paths.{context_at}
-use Rattle.pl_part.specs.Parts.{ChannelPartView, PartHolds, PartTakes, SamePart, PartReads, PartMoves, head_hop}
+use Rattle.pl_part.specs.Parts.{ChannelPartView, PartHolds, SamePart, PartReads, PartMoves, head_hop}
 use Rattle.pl_part.specs.PartCalls.{Taken, Given, PartRefused}
 use Rattle.pl_channel.specs.Lanes.{world_of}
 use Rattle.pl_channel.specs.PlanStand.{PartKeepsPlan}
@@ -51,12 +49,6 @@ move-keeps meaning stands_after is_spent state may_refuse q p p' b a head.Out ma
 move-path : {S T : Type 0} (state : T → TransportState) (may_refuse : T → ℕ → Type 0) (p p' : ChannelPartView S T) (b a : OutputsView) (by : HeadMove) (made : Bool) → PartMoves state may_refuse p by b made p' a → p'.path ≡ p.path
 move-path state may_refuse p p' b a head.Read made m = m.reads.path
 move-path state may_refuse p p' b a head.Out made m = m.writes.path
-
--- what it has taken was not for its head, whose hop is the last of so many
-pub head-stays : {S T : Type 0} (meaning : S → Meaning) (stands_after : S → List Event → Type 0) (is_spent : S → Bool) (state : T → TransportState) (p p' : ChannelPartView S T) (e : Envelope) (b : OutputsView) (answer : Took) (a : OutputsView)
-    → PartTakes meaning stands_after is_spent state p e b answer p' a → length p.path.executors ≡ head_hop p + 1 → (hops : ℕ) → hops ≡ length p.path.executors → (e.lane.hop + 1 == hops) ≡ false → p'.head ≡ p.head
-head-stays meaning stands_after is_spent state p p' e b answer a takes last hops are off =
-    (takes.path (ne_eqb e.lane.hop (head_hop p) (λ at. both_ways (e.lane.hop + 1 == hops) off (eq-eqb (e.lane.hop + 1) hops (omega (arith, at, last, are)))))).1
 
 module _ {S T : Type 0} (ps : List (ChannelPartView S T)) (c : ℕ) (p p' : ChannelPartView S T) (was : slice_get ps c ≡ Some p) where
   module _ (world : World) (plan : Plan) (meaning : S → Meaning) (stands_after : S → List Event → Type 0) (is_spent : S → Bool) (state : T → TransportState) (me : ℕ) (refused : Bool)

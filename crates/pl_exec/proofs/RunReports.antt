@@ -1,27 +1,23 @@
 -- The reports of channels whose ends were found.
-use Rattle.std.proofs.Common.{◌≡◌, ◌≢◌, ℕ, Bool, true, false, ◌||◌, ◌&&◌, List, [], ◌∷◌, length, slice_get, Option, Some, None, Ok, Err, inl, inr, ap, sym, subst, ◌∙◌, arith}
-use Rattle.std.specs.Prelude.{Result, IfOk, is_some, nat_le, All}
+use Rattle.std.proofs.Common.{◌≡◌, ◌≢◌, ℕ, Bool, true, false, ◌||◌, ◌&&◌, List, [], ◌∷◌, length, slice_get, Option, Some, None, inl, inr, ap, sym, subst, ◌∙◌, arith}
+use Rattle.std.specs.Prelude.{is_some, nat_le, All}
 use Rattle.std.specs.List.{AllZip}
-use Rattle.std.specs.declared.alloc.AllocError.{AllocError}
 use Rattle.std.proofs.lemmas.Bool.{false≢true}
 use Rattle.std.proofs.lemmas.List.Elements.{All-nil, All-cons}
 use Rattle.std.proofs.lemmas.Option.{same_Some, slice_get_within, slice_get_cases}
-use Rattle.pl_event.specs.declared.events.Event.{Event}
 use Rattle.pl_event.specs.declared.outcomes.Cause.{Cause}
 use Rattle.pl_context.specs.declared.standing.Standing.{Standing}
 use Rattle.pl_context.specs.declared.standing.Standing.TheVariants as standing
 use Rattle.pl_context.specs.Standings.{is_over, cause_of}
 use Rattle.pl_context.specs.TailViews.{TailView}
 use Rattle.pl_head.specs.Writes.{out}
-use Rattle.pl_head.specs.Marks.{Change}
 use Rattle.pl_head.specs.Transports.{TransportState}
-use Rattle.pl_head.specs.HeadStand.{HeadView, HeadStandsAfter, first_cause}
-use Rattle.pl_channel.specs.Ends.{EndsHold, ends_of}
+use Rattle.pl_head.specs.HeadStand.{HeadView, first_cause}
 use Rattle.pl_event.proofs.Lists.{zip_through}
 use Rattle.pl_world.specs.declared.report.ChannelReport.{ChannelReport}
 use Rattle.pl_world.specs.declared.report.Stands.TheVariants.{Open}
 use Rattle.pl_world.specs.Plans.{ChannelPlan, Plan}
-use Rattle.pl_world.specs.Reports.{IsChannelReport, KeepsToPlan, has_ended, stands_by}
+use Rattle.pl_world.specs.Reports.{KeepsToPlan, has_ended, stands_by}
 use Rattle.pl_exec.specs.declared.reporting.Found.{Found}
 use Rattle.pl_exec.specs.Reported.{HasBothEnds, IsLeftTail, IsLeftHead, AreLeft, IsFinalReport, IsRunReport, ReportsRun}
 use Rattle.pl_exec.proofs.RunEnds.{HasOutcome, held, reports-run, run-settled}
@@ -38,22 +34,6 @@ not-open None standing.Ended (standing.Failed cause) written over ended idle sta
 not-open None standing.Ended standing.Open written over ended idle stays = false≢true over
 not-open None standing.Ended standing.Ended true over ended idle stays = cc
 not-open None standing.Ended standing.Ended false over ended idle stays = false≢true idle
-
--- ---- one report
-
-module _ {T : Type 0} (state : T → TransportState) (f : Found T) (tail : TailView) (head : HeadView T) (has_tail : f.tail ≡ Some tail) (has_head : f.head ≡ Some head) where
-  -- what the report of two ends says of them
-  abbrev pub OfEnds : ChannelReport → Type 0
-  OfEnds r = (ys zs : List Event) (sizes : List Change) → HeadStandsAfter state head ys zs sizes → IsChannelReport (ends_of state tail head ys zs) r
-
-  -- and that it keeps to each plan by which they hold
-  abbrev pub KeepsByEnds : ChannelReport → Type 0
-  KeepsByEnds r = (refuses : Bool) (plan : Plan) (number : ℕ) (p : ChannelPlan) → EndsHold state refuses plan number p tail head → KeepsToPlan p r
-
-  -- so where both were found it is their report, if memory has not run out
-  pub final-result : (r : Result ChannelReport AllocError) → IfOk r OfEnds → IfOk r KeepsByEnds → IfOk r (λ report. IsFinalReport state f report)
-  final-result (Ok report) ends keeps = record { tail = tail; has_tail = has_tail; head = head; has_head = has_head; reports = ends; keeps = keeps }
-  final-result (Err e) ends keeps = tt
 
 -- ---- one channel
 

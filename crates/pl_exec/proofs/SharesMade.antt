@@ -1,5 +1,5 @@
 -- The nodes of executors, each of which takes its shares of channels, with the seats of their heads, out of what is left.
-use Rattle.std.proofs.Common.{◌≡◌, ◌≢◌, ℕ, ◌+◌, ◌<◌, ◌≤◌, Bool, true, false, not, ◌&&◌, List, [], ◌∷◌, ◌++◌, length, map, get_or, set, slice_get, Option, Some, refl, ap, sym, ◌∙◌, subst, ⊎_elim, arith, inl, inr, append-nil, append_assoc}
+use Rattle.std.proofs.Common.{◌≡◌, ◌≢◌, ℕ, ◌+◌, ◌<◌, ◌≤◌, Bool, true, false, not, ◌&&◌, List, [], ◌∷◌, ◌++◌, length, map, get_or, set, slice_get, Option, Some, refl, ap, sym, ◌∙◌, subst, ⊎_elim, arith, inl, inr}
 use Rattle.std.specs.Prelude.{◌==◌, cond, is_some}
 use Rattle.std.specs.List.{range_with_len}
 use Rattle.std.proofs.lemmas.Bool.{both_ways, cases_Bool, cases_eq, eqb-true, false≢true, ne_eqb}
@@ -302,15 +302,3 @@ module _ {V : Type 0} (targets : V → List ℕ) (work : ℕ) where
       ∙ ap (λ (rows : List (List ℕ)). map (reserved work) rows) are
       ∙ map-map (reserved work) row (range_with_len 0 count)
       ∙ ap (λ (n : ℕ). map (λ x. reserved n (row x)) (range_with_len 0 count)) lanes
-
-  -- those of one executor are made
-  pub next-places : (whole all more : List PlacesView) (left rest : List V) (row : V) → left ≡ row ∷ rest → more ≡ all ++ reserved_by row ∷ [] → all ++ map reserved_by left ≡ whole → more ++ map reserved_by rest ≡ whole
-  next-places whole all more left rest row front added so_far =
-      ap (λ (l : List PlacesView). l ++ map reserved_by rest) added
-      ∙ append_assoc all (reserved_by row ∷ []) (map reserved_by rest)
-      ∙ ap (λ (l : List V). all ++ map reserved_by l) (sym front)
-      ∙ so_far
-
-  -- none is left
-  pub all-places : (whole all : List PlacesView) (left : List V) → left ≡ [] → all ++ map reserved_by left ≡ whole → all ≡ whole
-  all-places whole all left none so_far = sym (append-nil all) ∙ ap (λ (l : List V). all ++ map reserved_by l) (sym none) ∙ so_far

@@ -1,4 +1,4 @@
--- The stages that a run leaves.
+-- The stages that a run leaves, and all that it leaves.
 use Rattle.std.specs.Global.{Vec}
 use Rattle.std.specs.Prelude.{◌≡◌, ◌≢◌, ℕ, ◌<◌, ◌≤◌, true, List, [], ◌∷◌, map, get_or, Option, Some, None}
 use Rattle.std.specs.List.{AllZip}
@@ -10,6 +10,8 @@ use Rattle.pl_part.specs.LaneStages.{LaneStage}
 use Rattle.pl_part.specs.Keeping.{part_stages}
 use Rattle.pl_part.specs.Parts.{ChannelPartView}
 use Rattle.pl_world.specs.Plans.{ChannelPlan, Plan, content, planned_head_hop, tail_hop}
+use Rattle.pl_exec.specs.declared.reporting.Ran.{Ran}
+use Rattle.pl_exec.specs.Reported.{IsRunReport}
 
 -- The stages of a channel of a plan, by hop: each handler has one, and the tail none. The context of each has ended or failed; it
 -- stands after the first events of what all handlers before it, as whole lists, make of the recorded input, and after all of them
@@ -27,6 +29,11 @@ slots_in rows = map (λ row. row.items) rows
 -- so it is with all channels of a plan
 abbrev pub HaveRunStages : {S : Type 0} → (S → List Event → Type 0) → Plan → List (Vec (Option (KeptStage S))) → Type 0
 HaveRunStages stands_after plan rows = AllZip (HasRunStages stands_after) plan.channels (slots_in rows)
+
+-- What a run of a plan leaves. It leaves the report, and the stages.
+pub record IsRan {S : Type 0} (stands_after : S → List Event → Type 0) (plan : Plan) (ran : Ran S) : Type 0 where
+  pub report : IsRunReport plan ran.report
+  pub stages : HaveRunStages stands_after plan ran.stages.items
 
 -- ---- as far as they were found
 

@@ -10,6 +10,7 @@ ghost use Rattle.pl_exec.specs.declared.lanes.WayIn.{WayIn};
 ghost use Rattle.pl_exec.specs.Opening.{AreAllWays, AreBefore, GetLanes, lanes_in, lanes_with, way_by, way_if, ways_in};
 ghost use Rattle.pl_exec.specs.Lanes.{AreLaid, lane_table, lanes_at, with_lane, with_lanes};
 
+use pl_channel::origin_of;
 use pl_event::{Kind, Lane, Stage};
 use pl_head::Transport;
 use pl_part::ChannelPart;
@@ -91,20 +92,11 @@ fn add_hop<S: Stage, T: Transport>(
         hop,
     };
     add_between(table, origin, target, lane)?;
-    if hop as usize + 1 < part.hops() {
+    if (hop as usize) < part.head_hop() {
         lane.kind = Kind::Flags;
         add_between(table, origin, target, lane)?;
     }
     Ok(())
-}
-
-/// The executor that the lanes of a hop come from.
-fn origin_of<S: Stage, T: Transport>(part: &ChannelPart<S, T>, hop: usize) -> usize
-    requires hops { HasExecutors part.now }
-    requires there { hop < length part.now.path.executors }
-    ensures { result ≡ executor_at part.now (writer_hop part.now.path hop) }
-{
-    part.target(part.writer(hop))
 }
 
 /// Adds a lane to those from one executor to another. From one to itself none is added.
@@ -239,11 +231,11 @@ pub(crate) fn split_ways(
     ensures lanes { IfOk result (λ r. map (λ list. list.items) r.1.items ≡ map (λ way. way.lanes) (ways_in ways.items)) }
 {
     let mut origins = Vec::with_capacity(alloc, ways.len())?;
-    let mut senders = Vec::with_capacity(alloc, ways.len())?;
+    let mut all = Vec::with_capacity(alloc, ways.len())?;
     for way in ways {
         let WayIn { origin, lanes } = way;
         origins.push(origin)?;
-        senders.push(lanes)?;
+        all.push(lanes)?;
     }
-    Ok((origins, senders))
+    Ok((origins, all))
 }

@@ -63,7 +63,7 @@ impl<'a, W: Planned, S: Stage, T: Transport> OwnNodes<W> for ExecutorNodes<'a, S
         let position = self.positions[envelope.lane.channel as usize] as usize;
         let hop = envelope.lane.hop as usize;
         let part = &mut self.parts[position];
-        let is_head = hop + 1 == part.hops();
+        let is_head = hop == part.head_hop();
         let _ = part.take(envelope, work);
         self.tell_if::<W>(position, is_head);
     }

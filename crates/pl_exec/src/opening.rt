@@ -6,6 +6,7 @@ ghost use Rattle.pl_threads.specs.Running.{ExecutorView};
 
 use crate::lanes::{Leaving, WayIn, all_ways, split_ways};
 use crate::planned::Planned;
+use crate::sharing::Places;
 use crossbeam_utils::sync::Parker;
 use pl_context::Outputs;
 use pl_event::Named;
@@ -65,9 +66,9 @@ fn open<W: Named, M: Mailbox<W> + Drop>(
     ensures column { IfOk result (λ r. IsColumn M.ends (inbox_view r.0) (ways_in ways.items) r.2) }
     ensures capacity { IfOk result (λ r. M.ends.capacity_of r.0.mailbox ≡ capacity) }
 {
-    let (origins, senders) = split_ways(alloc, ways)?;
-    let count = senders.len() as u16;
-    let (mailbox, senders, taker) = match M::open(alloc, senders, capacity) {
+    let (origins, lanes) = split_ways(alloc, ways)?;
+    let count = lanes.len() as u16;
+    let (mailbox, senders, taker) = match M::open(alloc, lanes, capacity) {
         Ok(opened) => opened,
         Err(OpenRefusal::Memory) => return Err(AllocError),
         Err(OpenRefusal::Limit) => unreachable!(),
@@ -112,31 +113,6 @@ pub(crate) fn open_all<W: Named, M: Mailbox<W> + Drop>(
         columns.push(column)?;
     }
     Ok((inboxes, ends, columns))
-}
-
-/// The places that are reserved for lanes that stop: on an executor's work list, and for what waits for each executor.
-#[derive(Drop)]
-pub(crate) struct Places {
-    pub work: u16,
-    pub targets: Vec<u16>,
-}
-
-impl Model for Places {
-    ghost use Rattle.pl_exec.specs.Opening.{PlacesView};
-
-    ghost Value = { PlacesView };
-
-    ghost view = { λ p. record { work = p.work; targets = p.targets.items } };
-}
-
-impl Places {
-    /// How many are reserved for what waits for a target.
-    fn for_target(&self, target: usize) -> u16
-        requires { target < length self.now.targets }
-        ensures { slice_get self.now.targets target ≡ Some result }
-    {
-        self.targets[target]
-    }
 }
 
 /// The executors before their first turn, each with its nodes, its own ends and its outboxes, and with the parker of its
@@ -205,7 +181,7 @@ fn executor<'a, W: Named, M: Mailbox<W> + Drop, N: OwnNodes<W> + Drop>(
 /// The ways of an executor to others, in the order of these.
 #[derive(Drop)]
 struct Ways<'a, W: Named, M: Mailbox<W> + Drop> {
-    /// Those of all executors, by number.
+    /// Those of all executors, by number: by these its type has the lifetime of what its outboxes borrow.
     inboxes: &'a [Inbox<W, M>],
     /// By executor the number of the way to it, or `NO_WAY`.
     numbers: Vec<u16>,
@@ -235,7 +211,7 @@ impl<'a, W: Named, M: Mailbox<W> + Drop> Ways<'a, W, M> {
         })
     }
 
-    /// Takes these. None are left.
+    /// Takes these. None are left. An iterator over all could not be zipped with others, for the lifetime that it has.
     fn take(&mut self, alloc: Global) -> Self
         ensures { result ≡ self.old }
     {

@@ -1,12 +1,12 @@
 //! What became of each channel, by the nodes that all executors leave.
 
-ghost use Rattle.std.specs.Prelude.{◌≡◌, IfOk, OnOk, is_some, length, map, replicate, true};
+ghost use Rattle.std.specs.Prelude.{◌≡◌, IfOk, OnOk, length, map, replicate};
 ghost use Rattle.std.specs.List.{AllZip, range_with_len};
 ghost use Rattle.std.specs.Option.{option_or};
 ghost use Rattle.pl_world.specs.PlanRules.{IsPlan};
 ghost use Rattle.pl_exec.specs.ChannelRows.{IsChannelRow, by_channel};
 ghost use Rattle.pl_exec.specs.Reported.{AreLeft, IsFinalReport, IsRunReport, nothing_found, with_part};
-ghost use Rattle.pl_exec.specs.RunStages.{HaveRunStages, filled_up, slots_in, with_stages};
+ghost use Rattle.pl_exec.specs.RunStages.{IsRan, filled_up, slots_in, with_stages};
 
 use crate::lanes::empty_lists;
 use crate::nodes::ExecutorNodes;
@@ -46,8 +46,7 @@ pub(crate) fn report_of<W: Planned, M: Mailbox<W> + Drop, S: Stage, T: Transport
     requires plan { IsPlan W.plan }
     requires executors { map (λ e. e.nodes.number) all.items ≡ range_with_len 0 W.plan.executors }
     requires channels { channels ≡ length W.plan.channels }
-    ensures report { IfOk result (λ ran. IsRunReport W.plan ran.report) }
-    ensures stages { IfOk result (λ ran. HaveRunStages S.stands_after W.plan ran.stages.items) }
+    ensures ran { IfOk result (IsRan S.stands_after W.plan) }
 {
     let mut found = none_found(alloc, channels)?;
     let mut stages = empty_lists(alloc, channels)?;
@@ -150,17 +149,8 @@ fn reports<W: Planned, T: Transport>(
 {
     let mut reports = Vec::with_capacity(alloc, all.len())?;
     for found in all {
-        reports.push(report_from(alloc, found)?)?;
+        let Found { tail, head } = found;
+        reports.push(into_report(alloc, tail.unwrap(), head.unwrap())?)?;
     }
     Ok(Sequence::from_vec(reports))
-}
-
-/// What became of a channel whose ends were found.
-fn report_from<T: Transport>(alloc: Global, found: Found<T>) -> Result<ChannelReport, AllocError>
-    requires tail { is_some found.tail ≡ true }
-    requires head { is_some found.head ≡ true }
-    ensures { IfOk result (λ report. IsFinalReport T.state found report) }
-{
-    let Found { tail, head } = found;
-    into_report(alloc, tail.unwrap(), head.unwrap())
 }

@@ -7,17 +7,17 @@ ghost use Rattle.pl_world.specs.Plans.{planned};
 ghost use Rattle.pl_world.specs.Sessions.{plan_of};
 ghost use Rattle.pl_exec.specs.Opening.{CanOpenAll, lanes_in};
 ghost use Rattle.pl_exec.specs.Reported.{IsRunReport};
-ghost use Rattle.pl_exec.specs.RunStages.{HaveRunStages};
+ghost use Rattle.pl_exec.specs.RunStages.{IsRan};
 ghost use Rattle.pl_exec.specs.SessionWords.{AreHeadSeatsOf, AreNewlySeated, HaveMarksOf, recorded_marks};
 ghost use Rattle.pl_exec.specs.Starting.{AreReady, FitExecutors, IsRunOf};
 ghost use Rattle.pl_exec.specs.Telling.{plan_marks};
 
 use crate::lanes::{Leaving, lane_table};
 use crate::nodes::ExecutorNodes;
-use crate::opening::{Places, executors, open_all};
+use crate::opening::{executors, open_all};
 use crate::planned::Planned;
 use crate::reporting::{Ran, report_of};
-use crate::sharing::{channels_on, places, shares};
+use crate::sharing::{Places, channels_on, shares};
 use crate::words::{HeadSeats, Seats, Words};
 use pl_channel::whole_parts;
 use pl_event::Stage;
@@ -131,8 +131,7 @@ pub fn run_world_with<
     requires capacity { (1 ≤ capacity) × (capacity ≤ MAX_CAPACITY) }
     requires seats { AreHeadSeatsOf words.now seats }
     requires marks { HaveMarksOf seats world.channels }
-    ensures report { IfOk result (λ ran. IsRunReport (planned S.meaning T.state capacity world.executors world.channels) ran.report) }
-    ensures stages { IfOk result (λ ran. HaveRunStages S.stands_after (planned S.meaning T.state capacity world.executors world.channels) ran.stages.items) }
+    ensures ran { IfOk result (IsRan S.stands_after (planned S.meaning T.state capacity world.executors world.channels)) }
     ensures entered { IfOk result (λ _. (e : ℕ) → e < world.executors → G.was_entered gate.now e 0) }
 {
     let seats = seats.by_channel(alloc)?;
@@ -183,8 +182,7 @@ fn run_planned<
 ) -> Result<Ran<S>, RunFault>
     requires run { IsRunOf S.meaning T.state W.world W.plan capacity world }
     requires seated { AreNewlySeated setting.words.now (map recorded_marks world.channels) setting.seats.items }
-    ensures report { IfOk result (λ ran. IsRunReport W.plan ran.report) }
-    ensures stages { IfOk result (λ ran. HaveRunStages S.stands_after W.plan ran.stages.items) }
+    ensures ran { IfOk result (IsRan S.stands_after W.plan) }
     ensures entered { IfOk result (λ _. (e : ℕ) → e < W.plan.executors → G.was_entered setting.entry.gate.now e 0) }
 {
     match queue {
@@ -207,8 +205,7 @@ where
     M::Taker: Send,
     requires run { IsRunOf S.meaning T.state W.world W.plan capacity world }
     requires seated { AreNewlySeated setting.words.now (map recorded_marks world.channels) setting.seats.items }
-    ensures report { IfOk result (λ ran. IsRunReport W.plan ran.report) }
-    ensures stages { IfOk result (λ ran. HaveRunStages S.stands_after W.plan ran.stages.items) }
+    ensures ran { IfOk result (IsRan S.stands_after W.plan) }
     ensures entered { IfOk result (λ _. (e : ℕ) → e < W.plan.executors → G.was_entered setting.entry.gate.now e 0) }
 {
     let Setting {
@@ -245,9 +242,9 @@ fn share_out<'a, W: Planned, S: Stage, T: Transport>(
     ensures fit { IfOk result (λ r. FitExecutors W.world W.plan S.meaning S.stands_after T.state (lanes_in r.2.items) r.0.items r.1.items) }
     ensures open { IfOk result (λ r. CanOpenAll W.plan.capacity (lanes_in r.2.items)) }
 {
-    let places = places(alloc, parts.as_slice(), count)?;
-    let here = channels_on(alloc, parts.as_slice(), count)?;
     let lanes = lane_table(alloc, parts.as_slice(), count)?;
+    let places = Places::of_each(alloc, parts.as_slice(), count)?;
+    let here = channels_on(alloc, count, parts.as_slice())?;
     let nodes = shares(alloc, words, seats, parts, here)?;
     Ok((nodes, places, lanes))
 }

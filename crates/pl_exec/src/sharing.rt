@@ -1,20 +1,21 @@
 //! The nodes of all channels, each at its executor.
 
-ghost use Rattle.std.specs.Prelude.{◌≡◌, ◌<◌, ◌^◌, ◌∷◌, ◌++◌, [], All, cond, is_some, length, map, not, IfOk, OnOk};
+ghost use Rattle.std.specs.Prelude.{◌≡◌, ◌<◌, ◌^◌, ◌∷◌, ◌++◌, [], All, cond, is_some, length, map, not, slice_get, IfOk, OnOk, Some};
 ghost use Rattle.std.specs.List.{range_with_len};
 ghost use Rattle.pl_part.specs.Shares.{only_if};
 ghost use Rattle.pl_channel.specs.Ways.{ArePlaceable};
 ghost use Rattle.pl_exec.specs.ChannelRows.{IsChannelRow, row_position};
 ghost use Rattle.pl_exec.specs.Sharing.{AreNoted, AreRests, AreShared, HasShares, IsNoted, IsNotedAt, Gets, channels_on, places_of, rows_in};
 
+use crate::lanes::empty_lists;
 use crate::nodes::ExecutorNodes;
-use crate::opening::Places;
 use crate::words::{Seats, Words};
 use pl_channel::{lane_count, places_between};
 use pl_event::Stage;
 use pl_head::Transport;
-use pl_part::ChannelPart;
+use pl_part::{ChannelPart, take_where};
 use std::alloc::{AllocError, Global};
+use std::marker::Model;
 
 /// The nodes of these channels at their executors: each has its shares of the channels in its row, and the seats of those
 /// whose heads it has, where there are some.
@@ -98,17 +99,9 @@ fn add_share<S: Stage, T: Transport>(
 {
     let has_head = share.head().is_some();
     note_if(&mut nodes.own, nodes.parts.len(), has_head)?;
-    nodes.seats.push(take_if(seats, has_head))?;
+    nodes.seats.push(take_where(seats, has_head))?;
     nodes.parts.push(share)?;
     Ok(())
-}
-
-/// The seats, where they are wanted. Else they stay.
-fn take_if(seats: &mut Option<Seats>, wanted: bool) -> Option<Seats>
-    ensures taken { result ≡ only_if wanted seats.old }
-    ensures left { seats.new ≡ only_if (not wanted) seats.old }
-{
-    if wanted { seats.take() } else { None }
 }
 
 /// Notes a position where it is wanted.
@@ -124,15 +117,12 @@ fn note_if(own: &mut Vec<usize>, position: usize, wanted: bool) -> Result<(), Al
 /// For each of so many executors the channels that have a node on it, in order: one walk over the hops of all channels.
 pub(crate) fn channels_on<S: Stage, T: Transport>(
     alloc: Global,
-    parts: &[ChannelPart<S, T>],
     count: usize,
+    parts: &[ChannelPart<S, T>],
 ) -> Result<Vec<Vec<usize>>, AllocError>
     ensures { IfOk result (λ rows. rows_in rows.items ≡ map (channels_on parts.now) (range_with_len 0 count)) }
 {
-    let mut rows = Vec::with_capacity(alloc, count)?;
-    for _executor in 0..count {
-        rows.push(Vec::new(alloc))?;
-    }
+    let mut rows = empty_lists(alloc, count)?;
     for channel in 0..parts.len() {
         note_channel(&mut rows, channel, &parts[channel])?;
     }
@@ -176,19 +166,44 @@ fn note_once(row: &mut Vec<usize>, channel: usize) -> Result<(), AllocError>
     Ok(())
 }
 
-/// The places of each executor.
-pub(crate) fn places<S: Stage, T: Transport>(
-    alloc: Global,
-    parts: &[ChannelPart<S, T>],
-    count: usize,
-) -> Result<Vec<Places>, AllocError>
-    requires { ArePlaceable parts.now }
-    ensures { IfOk result (λ places. places.items ≡ places_of parts.now count) }
-{
-    let work = lane_count(parts);
-    let mut all = Vec::with_capacity(alloc, count)?;
-    for targets in places_between(alloc, count, parts)? {
-        all.push(Places { work, targets })?;
+/// The places that are reserved for lanes that stop: on an executor's work list, and for what waits for each executor.
+#[derive(Drop)]
+pub(crate) struct Places {
+    pub(crate) work: u16,
+    targets: Vec<u16>,
+}
+
+impl Model for Places {
+    ghost use Rattle.pl_exec.specs.Opening.{PlacesView};
+
+    ghost Value = { PlacesView };
+
+    ghost view = { λ p. record { work = p.work; targets = p.targets.items } };
+}
+
+impl Places {
+    /// Those of each of so many executors.
+    pub(crate) fn of_each<S: Stage, T: Transport>(
+        alloc: Global,
+        parts: &[ChannelPart<S, T>],
+        count: usize,
+    ) -> Result<Vec<Places>, AllocError>
+        requires { ArePlaceable parts.now }
+        ensures { IfOk result (λ places. places.items ≡ places_of parts.now count) }
+    {
+        let work = lane_count(parts);
+        let mut all = Vec::with_capacity(alloc, count)?;
+        for targets in places_between(alloc, count, parts)? {
+            all.push(Places { work, targets })?;
+        }
+        Ok(all)
     }
-    Ok(all)
+
+    /// How many are reserved for what waits for a target.
+    pub(crate) fn for_target(&self, target: usize) -> u16
+        requires { target < length self.now.targets }
+        ensures { slice_get self.now.targets target ≡ Some result }
+    {
+        self.targets[target]
+    }
 }

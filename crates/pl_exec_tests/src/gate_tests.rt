@@ -1,6 +1,6 @@
 //! At which turns of executors a gate is entered.
 
-use crate::sessions::{PING, decoded_apart, on_loops};
+use crate::sessions::{PING, QUEUES, decoded_apart, on_loops};
 use crate::words_tests::assert_same;
 use pl_exec::{Gate, QueueKind, run};
 use pl_text::read_session;
@@ -126,8 +126,6 @@ fn is_drained(report: Option<Report>, channels: usize) -> bool {
         }
     }
 }
-
-const QUEUES: [QueueKind; 2] = [QueueKind::Ring, QueueKind::Waiting];
 
 #[test]
 fn gate_needs_two_threads(rt: HostRuntime) -> Result<(), Fail> {

@@ -3,10 +3,10 @@
 ghost use Rattle.std.specs.Prelude.{IfOk};
 ghost use Rattle.pl_exec.specs.SessionWords.{AreHeadSeatsOf, HaveMarksOf, IsReaderOf};
 
-use crate::sessions::{PING, decoded_apart, on_loops, with_channel};
+use crate::sessions::{PING, QUEUES, decoded_apart, on_loops, with_channel};
 use crate::words_tests::{assert_same, pair};
 use pl_event::{Command, Event, Message, Outcome};
-use pl_exec::{Gate, HeadSeats, QueueKind, Reader, Words, run_with};
+use pl_exec::{Gate, HeadSeats, Reader, Words, run_with};
 use pl_text::read_session;
 use pl_words::watermark::Mark;
 use pl_world::{ChannelReport, Report, Session, Stands};
@@ -210,70 +210,60 @@ fn watches(shared: &Shared, mut reader: Reader) -> bool
     }
 }
 
-/// Runs a session whose channels take PING, while another thread looks at its words. Afterwards they still say so.
+/// Runs a session whose channels take PING over each kind of queue, while another thread looks at its words. Afterwards they
+/// still say so.
 fn seen_while_running<R: Abort + Threads + Wait + Sync>(
     rt: &R,
     alloc: Global,
     text: &str,
     channels: usize,
     holds: Holds,
-    queue: QueueKind,
 ) -> Result<(), Fail> {
-    let Watched {
-        session,
-        shared,
-        seats,
-        reader,
-        mut later,
-    } = watch(alloc, text, holds)?;
-    let shared = &shared;
-    let (report, is_seen) = thread::join(
-        rt,
-        move || -> Option<Report>
-            requires own { AreHeadSeatsOf shared.now.words seats }
-            requires marks { HaveMarksOf seats session.world.channels }
-        { run_with(rt, alloc, session, queue, shared, &shared.words, seats).ok() },
-        move || -> bool
-            requires { IsReaderOf shared.now.words reader }
-        { watches(shared, reader) },
-    );
-    assert!(rt; is_seen);
-    let first = shared.words.peek(0, 0, &mut later);
-    assert_same(rt, first, Some(Outcome::Success));
-    assert_same(rt, shared.words.look(0, &mut later), ANSWERED);
-    assert_same(rt, shared.missed.load(Ordering::SeqCst), 0);
-    assert!(rt; report.is_some_and(|report| have_answered(&report, channels)));
+    for queue in QUEUES {
+        let Watched {
+            session,
+            shared,
+            seats,
+            reader,
+            mut later,
+        } = watch(alloc, text, holds)?;
+        let shared = &shared;
+        let (report, is_seen) = thread::join(
+            rt,
+            move || -> Option<Report>
+                requires own { AreHeadSeatsOf shared.now.words seats }
+                requires marks { HaveMarksOf seats session.world.channels }
+            { run_with(rt, alloc, session, queue, shared, &shared.words, seats).ok() },
+            move || -> bool
+                requires { IsReaderOf shared.now.words reader }
+            { watches(shared, reader) },
+        );
+        assert!(rt; is_seen);
+        let first = shared.words.peek(0, 0, &mut later);
+        assert_same(rt, first, Some(Outcome::Success));
+        assert_same(rt, shared.words.look(0, &mut later), ANSWERED);
+        assert_same(rt, shared.missed.load(Ordering::SeqCst), 0);
+        assert!(rt; report.is_some_and(|report| have_answered(&report, channels)));
+    }
     Ok(())
-}
-
-/// So with each kind of queue.
-fn seen_over_both<R: Abort + Threads + Wait + Sync>(
-    rt: &R,
-    alloc: Global,
-    text: &str,
-    channels: usize,
-    holds: Holds,
-) -> Result<(), Fail> {
-    seen_while_running(rt, alloc, text, channels, holds, QueueKind::Ring)?;
-    seen_while_running(rt, alloc, text, channels, holds, QueueKind::Waiting)
 }
 
 #[test]
 fn promise_seen_by_another_thread(rt: HostRuntime) -> Result<(), Fail> {
     let session = on_loops(rt.alloc(), &[PING])?;
-    seen_over_both(&rt, rt.alloc(), session.as_str(), 1, Holds::None)
+    seen_while_running(&rt, rt.alloc(), session.as_str(), 1, Holds::None)
 }
 
 #[test]
 fn channel_by_channel(rt: HostRuntime) -> Result<(), Fail> {
     let session = on_loops(rt.alloc(), &[PING, PING])?;
-    seen_over_both(&rt, rt.alloc(), session.as_str(), 2, Holds::FirstTurns)
+    seen_while_running(&rt, rt.alloc(), session.as_str(), 2, Holds::FirstTurns)
 }
 
 #[test]
 fn work_on_its_own_thread(rt: HostRuntime) -> Result<(), Fail> {
     let session = decoded_apart(rt.alloc(), 4)?;
-    seen_over_both(&rt, rt.alloc(), session.as_str(), 1, Holds::Turn(1, 1))
+    seen_while_running(&rt, rt.alloc(), session.as_str(), 1, Holds::Turn(1, 1))
 }
 
 /// The first turn of a loop reads the opening event, and the second the burst, which it answers and writes: while the gate
@@ -282,7 +272,7 @@ fn work_on_its_own_thread(rt: HostRuntime) -> Result<(), Fail> {
 fn gate_is_entered_before_a_turn_moves(rt: HostRuntime) -> Result<(), Fail> {
     let session = on_loops(rt.alloc(), &[PING])?;
     for turn in 0..2 {
-        seen_over_both(&rt, rt.alloc(), session.as_str(), 1, Holds::Turn(0, turn))?;
+        seen_while_running(&rt, rt.alloc(), session.as_str(), 1, Holds::Turn(0, turn))?;
     }
     Ok(())
 }
@@ -301,36 +291,26 @@ fn says(words: &Words, reader: &mut Reader, outcomes: &[Outcome]) -> bool
     is_said && words.peek(0, outcomes.len() as u64, reader).is_none()
 }
 
-/// Runs a session of one channel, whose promises then say these outcomes of its writes.
+/// Runs a session of one channel over each kind of queue. Its promises then say these outcomes of its writes.
 fn assert_told<R: Abort + Threads + Wait + Sync>(
     rt: &R,
     alloc: Global,
     text: &str,
-    queue: QueueKind,
     outcomes: &[Outcome],
 ) -> Result<(), Fail> {
-    let Watched {
-        session,
-        shared,
-        seats,
-        mut reader,
-        ..
-    } = watch(alloc, text, Holds::None)?;
-    let report = run_with(rt, alloc, session, queue, &shared, &shared.words, seats);
-    assert!(rt; report.is_ok());
-    assert!(rt; says(&shared.words, &mut reader, outcomes));
+    for queue in QUEUES {
+        let Watched {
+            mut reader,
+            session,
+            seats,
+            shared,
+            ..
+        } = watch(alloc, text, Holds::None)?;
+        let report = run_with(rt, alloc, session, queue, &shared, &shared.words, seats);
+        assert!(rt; report.is_ok());
+        assert!(rt; says(&shared.words, &mut reader, outcomes));
+    }
     Ok(())
-}
-
-/// So with each kind of queue.
-fn assert_told_over_both<R: Abort + Threads + Wait + Sync>(
-    rt: &R,
-    alloc: Global,
-    text: &str,
-    outcomes: &[Outcome],
-) -> Result<(), Fail> {
-    assert_told(rt, alloc, text, QueueKind::Ring, outcomes)?;
-    assert_told(rt, alloc, text, QueueKind::Waiting, outcomes)
 }
 
 /// Of three flushes the second passes: two replies leave, and the third is closed by the end.
@@ -342,7 +322,7 @@ fn closed_write_is_told(rt: HostRuntime) -> Result<(), Fail> {
         r#""bursts":[["PING\r\n"],["PING\r\n"],["PING\r\n"]]"#,
     )?;
     let outcomes = [Outcome::Success, Outcome::Success, Outcome::Closed];
-    assert_told_over_both(&rt, rt.alloc(), session.as_str(), &outcomes)
+    assert_told(&rt, rt.alloc(), session.as_str(), &outcomes)
 }
 
 /// The third call of the transport fails: the first reply took two.
@@ -354,5 +334,5 @@ fn fault_is_told(rt: HostRuntime) -> Result<(), Fail> {
         r#""window":4,"fail_at":3,"bursts":[["PING\nQUIT\n"]]"#,
     )?;
     let outcomes = [Outcome::Success, Outcome::Fault];
-    assert_told_over_both(&rt, rt.alloc(), session.as_str(), &outcomes)
+    assert_told(&rt, rt.alloc(), session.as_str(), &outcomes)
 }

@@ -1,6 +1,10 @@
-//! Sessions of the line protocol.
+//! Sessions of the line protocol, and the queues over which they are run.
 
+use pl_exec::QueueKind;
 use std::alloc::{AllocError, Global};
+
+/// Each kind of queue.
+pub(crate) const QUEUES: [QueueKind; 2] = [QueueKind::Ring, QueueKind::Waiting];
 
 /// What comes to a channel: a PING, or nothing.
 pub(crate) const PING: &str = r#"[["PING\r\n"]]"#;

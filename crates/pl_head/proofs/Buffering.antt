@@ -121,19 +121,25 @@ length-outcomes {unflushed = unflushed} {ended = ended} s =
     let split = ap (λ (t : List (Option (List ℕ))). length t) s.split in
     omega (arith, whole, parts, inner, split, length-append s.done s.mid, length-map s.done settled, length-map s.mid waiting, length-map unflushed (unflushed_outcome ended))
 
--- equal parts may stand after the same writes
-pub same_parts : {entries entries' : List Entry} {offset count count' : ℕ} {outcomes outcomes' : List (Option Outcome)} {flushed unflushed : List (Option (List ℕ))} {left : List ℕ} {ended : Bool}
-    → entries' ≡ entries → count' ≡ count → outcomes' ≡ outcomes → MessagesStand entries offset count outcomes flushed unflushed left ended → MessagesStand entries' offset count' outcomes' flushed unflushed left ended
-same_parts q c o s = record {
+-- Equal parts may stand after the same writes, from another offset with what is left there.
+parts-from : {entries entries' : List Entry} {offset offset' count count' : ℕ} {outcomes outcomes' : List (Option Outcome)} {flushed unflushed : List (Option (List ℕ))} {left left' : List ℕ} {ended : Bool}
+    → entries' ≡ entries → count' ≡ count → outcomes' ≡ outcomes → (s : MessagesStand entries offset count outcomes flushed unflushed left ended) → drop offset' (bytes_of s.mid) ≡ left' → offset' ≤ length (bytes_of s.mid)
+    → MessagesStand entries' offset' count' outcomes' flushed unflushed left' ended
+parts-from q c o s rest fits = record {
   done = s.done;
   mid = s.mid;
   split = s.split;
   entries_are = q ∙ s.entries_are;
   count_is = c ∙ s.count_is;
   outcomes_are = o ∙ s.outcomes_are;
-  rest = s.rest;
-  fits = s.fits;
+  rest = rest;
+  fits = fits;
 }
+
+-- equal parts may stand after the same writes
+pub same_parts : {entries entries' : List Entry} {offset count count' : ℕ} {outcomes outcomes' : List (Option Outcome)} {flushed unflushed : List (Option (List ℕ))} {left : List ℕ} {ended : Bool}
+    → entries' ≡ entries → count' ≡ count → outcomes' ≡ outcomes → MessagesStand entries offset count outcomes flushed unflushed left ended → MessagesStand entries' offset count' outcomes' flushed unflushed left ended
+same_parts q c o s = parts-from q c o s s.rest s.fits
 
 module _ (entries : List Entry) (offset count : ℕ) (outcomes : List (Option Outcome)) (flushed unflushed : List (Option (List ℕ))) (left : List ℕ) where
   -- one write more
@@ -179,17 +185,8 @@ module _ (entries : List Entry) (offset count : ℕ) (outcomes : List (Option Ou
     pub advances : (n : ℕ) → n ≤ length left → MessagesStand entries offset count outcomes flushed unflushed left ended → MessagesStand entries (offset + n) count outcomes flushed unflushed (drop n left) ended
     advances n h s =
         let size = ap (λ (t : List ℕ). length t) s.rest in
-        record {
-          done = s.done;
-          mid = s.mid;
-          split = s.split;
-          entries_are = s.entries_are;
-          count_is = s.count_is;
-          outcomes_are = s.outcomes_are;
-          rest =
-              sym (drop-drop n offset (bytes_of s.mid)) ∙ ap (λ (t : List ℕ). drop n t) s.rest;
-          fits = omega (arith, s.fits, h, size, length-drop offset (bytes_of s.mid));
-        }
+        parts-from refl refl refl s (sym (drop-drop n offset (bytes_of s.mid)) ∙ ap (λ (t : List ℕ). drop n t) s.rest)
+        (omega (arith, s.fits, h, size, length-drop offset (bytes_of s.mid)))
 
     -- no message is flushed, so nothing is left
     pub nothing_left : MessagesStand entries offset count outcomes flushed unflushed left ended → count ≡ 0 → left ≡ []

@@ -1,6 +1,5 @@
 -- A buffer of which the writes before the first that waits are forgotten; and what events write behind others that have left.
-use Rattle.std.proofs.Common.{◌≡◌, ℕ, ◌+◌, ◌-◌, ◌<◌, ◌≤◌, Bool, true, false, cond, ◌||◌, List, [], ◌∷◌, ◌++◌, length, map, take, drop, get_or, Option, Some, None, is_some, refl, sym, ap, ap₂, subst, ◌∙◌, arith, length-append, append-nil, append_assoc, suc}
-use Rattle.std.proofs.lemmas.Bool.{or_right}
+use Rattle.std.proofs.Common.{◌≡◌, ℕ, ◌+◌, ◌-◌, ◌<◌, ◌≤◌, Bool, true, false, cond, ◌||◌, List, [], ◌∷◌, ◌++◌, length, map, take, drop, get_or, Option, Some, None, is_some, refl, sym, ap, ap₂, subst, ◌∙◌, arith, length-append, append_assoc, suc}
 use Rattle.std.proofs.lemmas.List.{length-map, map-append, nil_from_length}
 use Rattle.std.proofs.Math.Seq.{drop-append_seam}
 use Rattle.pl_event.specs.declared.events.Event.{Event}
@@ -15,7 +14,7 @@ use Rattle.pl_head.specs.Marks.{Change}
 use Rattle.pl_head.specs.Settling.{numbers_from}
 use Rattle.pl_head.specs.Buffers.{OutboundBufferView, BufferStands, ForgetsWrites, first_waiting}
 use Rattle.pl_head.specs.HeadStand.{BufferAfter}
-use Rattle.pl_head.proofs.Buffering.{bytes_of-append, bytes_of-none, nothing_left}
+use Rattle.pl_head.proofs.Buffering.{bytes_of-append, nothing_left}
 use Rattle.pl_head.proofs.Flushing.{has_flush-longer, flushed-none}
 use Rattle.pl_head.proofs.Renumbering.{size-of}
 use Rattle.pl_head.proofs.WaitingSizes.{all_accepted}

@@ -1,5 +1,6 @@
--- What a head does with the next item of its lane, in a read step, in a write, and when it is aborted.
+-- What a head does with the next item of its lane, when it is fed, in a read step, in a write, and when it is aborted.
 use Rattle.std.specs.Prelude.{◌≡◌, ◌≢◌, ◌↔◌, ℕ, ◌+◌, ◌≤◌, ◌++◌, ◌⊎◌, List, [], length, Bool, true, false, ◌||◌, ◌&&◌, is_some, Some, IsSome, None, min}
+use Rattle.pl_event.specs.declared.elements.Element.{Element}
 use Rattle.pl_event.specs.declared.events.Event.{Event}
 use Rattle.pl_event.specs.declared.envelopes.Envelope.{Envelope}
 use Rattle.pl_event.specs.declared.envelopes.Item.TheVariants as item
@@ -21,7 +22,13 @@ use Rattle.pl_head.specs.Buffers.{SameMarks, SettlesMore, StopsNumbers, LacksRoo
 use Rattle.pl_head.specs.MarksStand.{SendsFlags}
 use Rattle.pl_head.specs.Transports.{TransportState, drained, one_call_more, FailsNext}
 use Rattle.pl_head.specs.ReadSteps.{entrance, bursts_read, has_step, read_items, brings_failure, brings_abort, next_step_items, steps_after}
-use Rattle.pl_head.specs.HeadStand.{HeadView, HeadStandsAfter, ReadsStand, Aborts, lane_over, Answers, read_answer, is_read_held, is_idle, waiting_at, events_before, events_from, item_sizes, step_sizes, standing_after, cause_of_item, cause_of_step, first_cause, HasFewFlags}
+use Rattle.pl_head.specs.InputStand.{InputFeeds}
+use Rattle.pl_head.specs.HeadStand.{HeadView, fed_head, HeadStandsAfter, ReadsStand, Aborts, lane_over, Answers, read_answer, is_read_held, is_idle, waiting_at, events_before, events_from, item_sizes, step_sizes, standing_after, cause_of_item, cause_of_step, first_cause, HasFewFlags}
+
+-- A head is fed a burst. It is to read that one more, and its reads stand by the plan with it.
+pub record HeadFeeds {T : Type 0} (burst : List Element) (h h' : HeadView T) : Type 0 where
+  pub fed : h' ≡ fed_head burst h
+  pub reads : InputFeeds burst h.input h'.input
 
 module _ {T : Type 0} (state : T → TransportState) where
   -- It takes the next item of its lane: after whichever events it stood, it stands after those and what the item brought. After

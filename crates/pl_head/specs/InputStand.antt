@@ -92,6 +92,11 @@ pub record InputStands (p : ReadPlan) (reads : ℕ) (failed : Bool) (r : InputVi
 abbrev pub fed_plan : Bursts → ReadPlan
 fed_plan bursts = record { bursts = bursts; abort_after = None }
 
+-- An input is fed a burst. That one more is left, and the steps that were made stand by the plan with it.
+pub record InputFeeds (burst : List Element) (r r' : InputView) : Type 0 where
+  pub fed : r' ≡ fed_input burst r
+  pub stands : (bursts : Bursts) (reads : ℕ) → InputStands (fed_plan bursts) reads false r → InputStands (fed_plan (bursts ++ burst ∷ [])) reads false r'
+
 -- how many items are still to come, while the lane is open
 abbrev pub items_left : ℕ → Bursts → ℕ
 items_left zero left = length (flat_map burst_events left) + 2

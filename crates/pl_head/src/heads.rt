@@ -3,7 +3,7 @@
 ghost use Rattle.std.specs.Prelude.{◌≡◌, ℕ, ◌+◌, ◌^◌, ◌≤◌, ◌<◌, ◌↔◌, ◌≢◌, ◌∷◌, ◌++◌, ◌⊎◌, ◌&&◌, List, [], length, take, min, Bool, true, false, Option, Some, None, IsSome, IsTrue, IfSome, IfNone, IfOk, OnOk, OnErr, is_some, not, ◌||◌, slice_index_or};
 ghost use Rattle.pl_event.specs.declared.events.Event.{Event};
 ghost use Rattle.pl_event.specs.declared.outcomes.Cause.TheVariants.{Aborted};
-ghost use Rattle.pl_event.specs.Inputs.{Bursts, recorded_input};
+ghost use Rattle.pl_event.specs.Inputs.{recorded_input};
 ghost use Rattle.pl_context.specs.declared.standing.Standing.TheVariants as standings;
 ghost use Rattle.pl_context.specs.declared.standing.Took.TheVariants as took;
 ghost use Rattle.pl_context.specs.Standings.{is_over};
@@ -19,8 +19,8 @@ ghost use Rattle.pl_event.specs.Hops.{flags_lane};
 ghost use Rattle.pl_event.specs.Worlds.{closes};
 ghost use Rattle.pl_head.specs.MarksStand.{SendsFlags};
 ghost use Rattle.pl_head.specs.Transports.{one_call_more, FailsNext};
-ghost use Rattle.pl_head.specs.HeadStand.{first_cause, fed_head, gone_of};
-ghost use Rattle.pl_head.specs.InputStand.{fed_plan, items_left, steps_left, takes_bursts};
+ghost use Rattle.pl_head.specs.HeadStand.{first_cause, gone_of};
+ghost use Rattle.pl_head.specs.InputStand.{items_left, steps_left, takes_bursts};
 ghost use Rattle.pl_event.specs.declared.limits.TheConstants.{MAX_ITEMS};
 
 use crate::inputs::{Input, ReadPlan};
@@ -86,7 +86,7 @@ impl<T> Model for Head<T> {
 
 impl<T: Transport> Head<T> {
     ghost use Rattle.pl_head.specs.Buffers.{SameMarks, SettlesMore, StopsNumbers, LacksRoom, untold};
-    ghost use Rattle.pl_head.specs.HeadCalls.{HeadTakes, HeadReads, HeadWrites, HeadAborts};
+    ghost use Rattle.pl_head.specs.HeadCalls.{HeadTakes, HeadFeeds, HeadReads, HeadWrites, HeadAborts};
     ghost use Rattle.pl_head.specs.HeadStand.{HeadStandsAfter, HasOutcomes, ReadsStand, Aborts, waiting_at, is_idle, is_read_held, read_answer, EntersHead, lane_over, Answers, events_before, events_from, item_sizes, step_sizes, standing_after, cause_of_item, cause_of_step, head_cause, HasFewFlags};
 
     /// A head that has taken nothing, of a transport that has accepted nothing, with the bursts that it is to read: with
@@ -165,10 +165,8 @@ impl<T: Transport> Head<T> {
     pub fn feed(&mut self, burst: Sequence<Element>) -> Result<(), AllocError>
         requires more { takes_bursts self.old.input ≡ true }
         requires few { self.old.input.port.made + items_left self.old.input.steps (self.old.input.left ++ burst ∷ []) < MAX_ITEMS }
-        ensures fed { OnOk result (self.new ≡ fed_head burst self.old) }
+        ensures feeds { OnOk result (HeadFeeds burst self.old self.new) }
         ensures kept { OnErr result (self.new ≡ self.old) }
-        ensures reads { OnOk result ((bursts : Bursts) (reads : ℕ) → ReadsStand (fed_plan bursts) reads false self.old
-            → ReadsStand (fed_plan (bursts ++ burst ∷ [])) reads false self.new) }
     {
         self.input.feed(burst)
     }
@@ -249,7 +247,7 @@ impl<T: Transport> Head<T> {
         }
     }
 
-    /// Takes the next item of its lane, while that is open. What takes an item apart is kept out of what hands it on whole.
+    /// Takes the next item of its lane, while that is open: it is taken apart here, out of line.
     #[inline(never)]
     fn take_open(&mut self, envelope: Envelope, outputs: &mut Outputs) -> Took
         requires open { self.old.standing ≡ standings.Open }

@@ -1,13 +1,13 @@
 //! The recorded input of a channel, read step by step.
 
 ghost use Rattle.std.specs.Prelude.{◌≡◌, ℕ, ◌+◌, ◌<◌, ◌^◌, ◌≤◌, [], ◌∷◌, List, length, Bool, true, false, not, is_some, ◌&&◌, ◌++◌, IfOk, OnOk, OnErr};
-ghost use Rattle.pl_event.specs.Inputs.{Bursts, burst_events, recorded_input};
+ghost use Rattle.pl_event.specs.Inputs.{burst_events, recorded_input};
 ghost use Rattle.pl_context.specs.Stops.{HasPlaces};
 ghost use Rattle.pl_context.specs.OutputsViews.{PutsAll};
 ghost use Rattle.pl_event.specs.declared.envelopes.Item.TheVariants as item;
 ghost use Rattle.pl_context.specs.Ports.{as_items, numbered, offered, port_after};
 ghost use Rattle.pl_head.specs.ReadSteps.{chunk_burst, chunk_plan, step_items, is_burst, is_abort, bursts_before, bursts_read, has_step};
-ghost use Rattle.pl_head.specs.InputStand.{InputStands, fed_plan, fed_input, new_input, next_items, left_after, burst_next, abort_next, last_next, input_after_step, failed_input, items_left, steps_left, takes_bursts};
+ghost use Rattle.pl_head.specs.InputStand.{InputStands, InputFeeds, new_input, next_items, left_after, burst_next, abort_next, last_next, input_after_step, failed_input, items_left, steps_left, takes_bursts};
 ghost use Rattle.pl_event.specs.declared.limits.TheConstants.{MAX_ITEMS};
 
 use pl_context::{Outputs, Port};
@@ -152,10 +152,8 @@ impl Input {
     pub(crate) fn feed(&mut self, burst: Sequence<Element>) -> Result<(), AllocError>
         requires more { takes_bursts self.old ≡ true }
         requires few { self.old.port.made + items_left self.old.steps (self.old.left ++ burst ∷ []) < MAX_ITEMS }
-        ensures fed { OnOk result (self.new ≡ fed_input burst self.old) }
+        ensures feeds { OnOk result (InputFeeds burst self.old self.new) }
         ensures kept { OnErr result (self.new ≡ self.old) }
-        ensures stands { OnOk result ((bursts : Bursts) (reads : ℕ) → InputStands (fed_plan bursts) reads false self.old
-            → InputStands (fed_plan (bursts ++ burst ∷ [])) reads false self.new) }
     {
         self.left.push_back(burst)?;
         Ok(())

@@ -15,7 +15,6 @@ ghost use Rattle.pl_head.specs.Writes.{write_by, late_outcome, flushed_writes, o
 ghost use Rattle.pl_head.specs.Marks.{Change, Added, Removed, pending_after, sizes_added, removed_by, is_unwritable};
 ghost use Rattle.pl_head.specs.WaitingMessages.{settled_all, first_size, entries_size, entry_numbers, renumbered};
 ghost use Rattle.pl_head.specs.Settling.{Account, numbers_from};
-ghost use Rattle.pl_head.specs.Buffers.{event_sizes};
 ghost use Rattle.pl_head.specs.declared.outbound_buffer.Refusal.TheVariants.{Numbered, Unnumbered};
 
 use crate::marks::Marks;
@@ -69,7 +68,7 @@ pub(crate) struct OutboundBuffer {
 impl OutboundBuffer {
     ghost use Rattle.pl_head.specs.MarksStand.{SendsFlags, flag_bound};
     ghost use Rattle.pl_head.specs.Buffers.{BufferStands, BufferFailed, IsAsBefore, SameMarks, SettlesMore, SettlesFront, StopsNumbers, LacksRoom, ForgetsWrites, can_forget_writes, first_waiting, untold};
-    ghost use Rattle.pl_head.specs.OutboundStand.{buffer_view, BufferHolds, HasPlace, TakesOut};
+    ghost use Rattle.pl_head.specs.OutboundStand.{buffer_view, BufferHolds, HasPlace, AddsEvent, TakesIn, TakesOut};
 
     /// Nothing waits, and nothing was written. It takes no memory.
     pub(crate) fn new(alloc: Global, channel: u16, low: u32, high: u32) -> Self
@@ -103,25 +102,13 @@ impl OutboundBuffer {
         requires room { flag_bound self.old.marks + 1 < 2 ^ 64 }
         requires place { HasPlaces outputs.old.stopped (self.old.marks.flags.lane ∷ []) }
         requires numbering { self.old.is_full ≡ false }
-        ensures stands { OnOk result ((accepted : List ℕ) (ys : List Event) (sizes : List Change) → BufferStands accepted (buffer_view self.old) ys false sizes
-            → BufferStands accepted (buffer_view self.new) (ys ++ event ∷ []) false (sizes ++ event_sizes event
-            (waiting_bytes ys (length accepted) false)
-            (waiting_bytes (ys ++ event ∷ []) (length accepted) false))) }
-        ensures flags { OnOk result ((accepted : List ℕ) (ys : List Event) (sizes : List Change) → BufferStands accepted (buffer_view self.old) ys false sizes
-            → SendsFlags self.old.marks.low self.old.marks.high sizes (event_sizes event
-            (waiting_bytes ys (length accepted) false)
-            (waiting_bytes (ys ++ event ∷ []) (length accepted) false)) self.old.marks.flags outputs.old self.new.marks.flags outputs.new) }
+        ensures adds { OnOk result (AddsEvent event self.old outputs.old self.new outputs.new) }
         ensures err { OnErr result ((accepted : List ℕ) (ys : List Event) (sizes : List Change) → BufferStands accepted (buffer_view self.old) ys false sizes
             → BufferFailed Closed accepted (buffer_view self.new) ys (event ∷ []) false (sizes ++ Removed (waiting_bytes ys (length accepted) false) ∷ [])) }
         ensures err_flags { OnErr result ((accepted : List ℕ) (ys : List Event) (sizes : List Change) → BufferStands accepted (buffer_view self.old) ys false sizes
             → SendsFlags self.old.marks.low self.old.marks.high sizes (Removed (waiting_bytes ys (length accepted) false) ∷ []) self.old.marks.flags outputs.old self.new.marks.flags outputs.new) }
         ensures err_full { OnErr result (LacksRoom event (buffer_view self.old)) }
-        ensures numbering { OnOk result (self.new.is_full ≡ false) }
-        ensures stops { StopsNumbers (buffer_view self.old) (buffer_view self.new) }
-        ensures same { SameMarks (buffer_view self.old) (buffer_view self.new) }
-        ensures settles { SettlesMore (buffer_view self.old) (buffer_view self.new) }
-        ensures pending { self.new.marks.pending ≤ self.old.marks.pending + 2 ^ 64 }
-        ensures count { flag_bound self.new.marks ≤ flag_bound self.old.marks + 2 }
+        ensures takes_in { TakesIn self.old self.new }
     {
         let Err(refusal) = self.add(event, outputs) else {
             return Ok(());
@@ -143,14 +130,7 @@ impl OutboundBuffer {
         requires room { flag_bound self.old.marks + 1 < 2 ^ 64 }
         requires place { HasPlaces outputs.old.stopped (self.old.marks.flags.lane ∷ []) }
         requires numbering { self.old.is_full ≡ false }
-        ensures stands { OnOk result ((accepted : List ℕ) (ys : List Event) (sizes : List Change) → BufferStands accepted (buffer_view self.old) ys false sizes
-            → BufferStands accepted (buffer_view self.new) (ys ++ event ∷ []) false (sizes ++ event_sizes event
-            (waiting_bytes ys (length accepted) false)
-            (waiting_bytes (ys ++ event ∷ []) (length accepted) false))) }
-        ensures flags { OnOk result ((accepted : List ℕ) (ys : List Event) (sizes : List Change) → BufferStands accepted (buffer_view self.old) ys false sizes
-            → SendsFlags self.old.marks.low self.old.marks.high sizes (event_sizes event
-            (waiting_bytes ys (length accepted) false)
-            (waiting_bytes (ys ++ event ∷ []) (length accepted) false)) self.old.marks.flags outputs.old self.new.marks.flags outputs.new) }
+        ensures adds { OnOk result (AddsEvent event self.old outputs.old self.new outputs.new) }
         // A refused write changes no message, offset, outcome, mark or flag.
         ensures refused { OnErr result (IsAsBefore (buffer_view self.old) (buffer_view self.new)) }
         ensures refused_marks { OnErr result (self.new.marks ≡ self.old.marks) }
@@ -158,12 +138,7 @@ impl OutboundBuffer {
         ensures lacks { OnErr result (LacksRoom event (buffer_view self.old)) }
         ensures numbered { result ≡ Err Numbered → HasPlace self.new × (self.new.is_full ≡ false) × (bytes : List ℕ) × (write_by event ≡ Some bytes ∷ []) }
         ensures unnumbered { result ≡ Err Unnumbered → self.new.is_full ≡ true }
-        ensures numbering { OnOk result (self.new.is_full ≡ false) }
-        ensures stops { StopsNumbers (buffer_view self.old) (buffer_view self.new) }
-        ensures same { SameMarks (buffer_view self.old) (buffer_view self.new) }
-        ensures settles { SettlesMore (buffer_view self.old) (buffer_view self.new) }
-        ensures pending { self.new.marks.pending ≤ self.old.marks.pending + 2 ^ 64 }
-        ensures count { flag_bound self.new.marks ≤ flag_bound self.old.marks + 2 }
+        ensures takes_in { TakesIn self.old self.new }
     {
         match event {
             Event::Write(message) => {

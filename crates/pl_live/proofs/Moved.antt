@@ -23,7 +23,7 @@ use Rattle.pl_channel.specs.Channels.{HasMoved, home_of}
 use Rattle.pl_channel.specs.Lanes.{world_of}
 use Rattle.pl_replay.specs.Moves.{nodes_view, nodes_stand, nodes_take}
 use Rattle.pl_replay.specs.declared.channels.Channels.{Channels}
-use Rattle.pl_replay.proofs.Kept.{settles-keep}
+use Rattle.pl_replay.proofs.PlanKept.{settles-keep}
 use Rattle.pl_world.specs.Plans.{ChannelPlan}
 use Rattle.pl_world.specs.Reports.{tail_of}
 use Rattle.pl_live.specs.LiveStand.{LiveView, LiveStands, GoesByPlan, HandsOut, alone, accepted_in, gone_in, handed_in, head_in, left_in, open_in, parts_of, recorded_in}

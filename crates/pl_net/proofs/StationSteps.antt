@@ -14,7 +14,7 @@ use Rattle.pl_flow.specs.Flows.{Point, point, on, IsGood}
 use Rattle.pl_flow.specs.LanesViews.{LanesView}
 use Rattle.pl_flow.specs.Makes.{Makes}
 use Rattle.pl_flow.specs.declared.moves.HeadMove.{HeadMove}
-use Rattle.pl_net.specs.NodesViews.{NodesView, written_by, NodesTake, NodesGive, NodesMake}
+use Rattle.pl_net.specs.NodesViews.{NodesView, written_by, NodesTake, NodesGive, NodesMake, HeadGives}
 use Rattle.pl_net.specs.Nets.{queue_at, LaneStands, IsStart, no_backlogs, StationView, IsAdded, IsTakenOut, StationsView, StationsStand, IsCall, IsKeep, IsStep, WorksListOff, Gives, AbortsHead, HandsOver}
 use Rattle.pl_net.proofs.OneExecutor.{Replaces}
 use Rattle.pl_net.proofs.NetSteps.{nets-put, front-written, call-number, call-good, called}
@@ -153,29 +153,34 @@ rest-stands view_of stands world x y c none h = record {
 }
 
 -- the executor of its head works off what comes of that
-module _ {N : Type 0} (view_of : N → NodesView) (stands : World → N → Type 0) (world : World) (x home runs : ℕ) (is : runs ≡ home) (c : StationsView N) (none : c.work.items ≡ []) (h : StationsStand view_of stands world x c)
+module _ {N : Type 0} (view_of : N → NodesView) (stands : World → N → Type 0) (world : World) (x channel runs : ℕ) (c : StationsView N) (is : runs ≡ (view_of c.nodes).home channel) (none : c.work.items ≡ []) (h : StationsStand view_of stands world x c)
     (n' : N) (after : OutputsView) where
+  abbrev home : ℕ
+  home = (view_of c.nodes).home channel
+
   abbrev given_stations : StationsView N
   given_stations = record c { nodes = n'; work = after }
 
-  pub given-stands : NodesGive (view_of c.nodes) home c.work (view_of n') after → stands world n' → NodesMake world (view_of c.nodes) home c.work (view_of n') after → StationsStand view_of stands world runs given_stations
-  given-stands t hold makes = subst (λ y. StationsStand view_of stands world y given_stations) (sym is) (give-stands view_of stands world home c (rest-stands view_of stands world x home c none h) n' after t hold makes)
+  pub given-stands : HeadGives view_of stands c.nodes channel c.work n' after → StationsStand view_of stands world runs given_stations
+  given-stands gives =
+      subst (λ y. StationsStand view_of stands world y given_stations) (sym is)
+      (give-stands view_of stands world home c (rest-stands view_of stands world x home c none h) n' after gives.view (gives.stands world h.hold) (gives.makes world h.hold))
 
-  pub given-settles : (takes : N → Envelope → OutputsView → N → OutputsView → Type 0) (moves : N → HeadMove → ℕ → OutputsView → N → OutputsView → Type 0) (by : HeadMove) (channel : ℕ) → moves c.nodes by channel c.work n' after
+  pub given-settles : (takes : N → Envelope → OutputsView → N → OutputsView → Type 0) (moves : N → HeadMove → ℕ → OutputsView → N → OutputsView → Type 0) (by : HeadMove) → moves c.nodes by channel c.work n' after
       → (to : (ℕ → List (Entry (Unit {0}))) → StationsView N)
       → (backlogs : ℕ → List (Entry (Unit {0}))) × StationsStand view_of stands world runs (to backlogs) × WorksListOff view_of takes runs given_stations (to backlogs)
       → (backlogs : ℕ → List (Entry (Unit {0}))) × StationsStand view_of stands world home (to backlogs) × Gives view_of takes moves home by channel c (to backlogs)
-  given-settles takes moves by channel moved to s = (
+  given-settles takes moves by moved to s = (
     s.0,
     subst (λ y. StationsStand view_of stands world y (to s.0)) is s.1,
     record { nodes = n'; work = after; moved = moved; settles = subst (λ y. WorksListOff view_of takes y given_stations (to s.0)) is s.2 },
   )
 
-  pub abort-settles : (takes : N → Envelope → OutputsView → N → OutputsView → Type 0) (aborts : N → ℕ → OutputsView → N → OutputsView → Type 0) (channel : ℕ) → aborts c.nodes channel c.work n' after
+  pub abort-settles : (takes : N → Envelope → OutputsView → N → OutputsView → Type 0) (aborts : N → ℕ → OutputsView → N → OutputsView → Type 0) → aborts c.nodes channel c.work n' after
       → (to : (ℕ → List (Entry (Unit {0}))) → StationsView N)
       → (backlogs : ℕ → List (Entry (Unit {0}))) × StationsStand view_of stands world runs (to backlogs) × WorksListOff view_of takes runs given_stations (to backlogs)
       → (backlogs : ℕ → List (Entry (Unit {0}))) × StationsStand view_of stands world home (to backlogs) × AbortsHead view_of takes aborts home channel c (to backlogs)
-  abort-settles takes aborts channel aborted to s = (
+  abort-settles takes aborts aborted to s = (
     s.0,
     subst (λ y. StationsStand view_of stands world y (to s.0)) is s.1,
     record { nodes = n'; work = after; aborted = aborted; settles = subst (λ y. WorksListOff view_of takes y given_stations (to s.0)) is s.2 },

@@ -46,3 +46,12 @@ pub record NodesGive (v : NodesView) (x : ℕ) (before : OutputsView) (v' : Node
 -- What nodes have put is next on its lanes. It is so lane by lane, of the lanes that are written on that executor.
 abbrev pub NodesMake : World → NodesView → ℕ → OutputsView → NodesView → OutputsView → Type 0
 NodesMake world v x before v' after = Makes world (written_by v x) v.lanes.came v'.lanes.came before after
+
+-- The head of a channel was called, and has given what it put.
+pub record HeadGives {N : Type 0} (view_of : N → NodesView) (Stands : World → N → Type 0) (nodes : N) (channel : ℕ) (before : OutputsView) (nodes' : N) (after : OutputsView) : Type 0 where
+  -- it has put that on its own executor, and taken nothing
+  pub view : NodesGive (view_of nodes) ((view_of nodes).home channel) before (view_of nodes') after
+  -- where the nodes stood they stand
+  pub stands : (world : World) → Stands world nodes → Stands world nodes'
+  -- and what it has put is next on its lanes
+  pub makes : (world : World) → Stands world nodes → NodesMake world (view_of nodes) ((view_of nodes).home channel) before (view_of nodes') after

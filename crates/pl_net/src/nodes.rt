@@ -7,7 +7,7 @@ ghost use Rattle.pl_context.specs.OutputsViews.{OutputsView};
 ghost use Rattle.pl_context.specs.Stops.{HasPlaces};
 ghost use Rattle.pl_flow.specs.Flows.{IsGood};
 ghost use Rattle.pl_flow.specs.declared.moves.HeadMove.{HeadMove};
-ghost use Rattle.pl_net.specs.NodesViews.{NodesView, NodesTake, NodesGive, NodesMake};
+ghost use Rattle.pl_net.specs.NodesViews.{NodesView, NodesTake, NodesMake, HeadGives};
 
 use pl_context::Outputs;
 use pl_event::{Envelope, Lane};
@@ -65,9 +65,7 @@ pub trait Nodes: Sized {
         ensures enabled { may_move self.old by channel result }
         ensures idle { result ≡ false → (self.new ≡ self.old) × (work.new ≡ work.old) }
         ensures moves { result ≡ true → moves self.old by channel work.old self.new work.new }
-        ensures view { result ≡ true → NodesGive (view_of self.old) ((view_of self.old).home channel) work.old (view_of self.new) work.new }
-        ensures stands { (world : World) → stands world self.old → stands world self.new }
-        ensures makes { (world : World) → stands world self.old → NodesMake world (view_of self.old) ((view_of self.old).home channel) work.old (view_of self.new) work.new };
+        ensures gives { HeadGives view_of stands self.old channel work.old self.new work.new };
 
     /// A channel is aborted: its head fails, where it has not.
     fn abort(&mut self, channel: usize, work: &mut Outputs)
@@ -75,7 +73,5 @@ pub trait Nodes: Sized {
         requires stands { (world : World) × stands world self.old }
         requires places { HasPlaces work.old.stopped (view_of self.old).lanes.places }
         ensures aborts { aborts self.old channel work.old self.new work.new }
-        ensures view { NodesGive (view_of self.old) ((view_of self.old).home channel) work.old (view_of self.new) work.new }
-        ensures stands { (world : World) → stands world self.old → stands world self.new }
-        ensures makes { (world : World) → stands world self.old → NodesMake world (view_of self.old) ((view_of self.old).home channel) work.old (view_of self.new) work.new };
+        ensures gives { HeadGives view_of stands self.old channel work.old self.new work.new };
 }

@@ -147,11 +147,11 @@ least ls v work = sum_by-le (listed_at_most v work) (2 ^ 32) ls (each ls)
     each [] = All-nil (λ l. listed_at_most v work l ≤ 2 ^ 32)
     each (l ∷ ls) = All-cons (λ l. listed_at_most v work l ≤ 2 ^ 32) l ls (within (has_stopped work.stopped l) (v.came l).next) (each ls)
 
-pub never-spent : {v : LanesView} {o o' : OutboxesView} {work : OutputsView} {target : ℕ} → AdmitsOnce v o work → RefusedBy o target SeatSpent o' → ⊥
-never-spent {v} {o} {o'} {work} {target} a r =
+pub never-spent : {v : LanesView} {o o' : OutboxesView} {work : OutputsView} {way : ℕ} → AdmitsOnce v o work → RefusedBy o way SeatSpent o' → ⊥
+never-spent {v} {o} {o'} {work} {way} a r =
     let b = r.before in
-    let here = get_or-le-sum_by (λ (c : OutboxView). c.seat.made) o.outboxes target b (slice_get_within o.outboxes target b r.was) in
-    let is = ap (λ (c : OutboxView). c.seat.made) (get_or_from_slice_get o.outboxes target b b r.was) in
+    let here = get_or-le-sum_by (λ (c : OutboxView). c.seat.made) o.outboxes way b (slice_get_within o.outboxes way b r.was) in
+    let is = ap (λ (c : OutboxView). c.seat.made) (get_or_from_slice_get o.outboxes way b b r.was) in
     let spent = r.seat.1 in
     let once = a.once in
     let all = least a.written.lanes v work in

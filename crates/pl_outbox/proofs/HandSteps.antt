@@ -33,17 +33,17 @@ stays-then o p q f g = record {
   made = g.made ∙ f.made;
 }
 
-pub offer-keeps : (o o' : OutboxesView) (target : ℕ) (result : Offered) → (result ≡ Handed → ⊥) → Offers o target result o' → KeepsAll o o'
-offer-keeps o o' target Handed not_handed offers = absurd (not_handed refl)
-offer-keeps o o' target Full not_handed offers = offers
-offer-keeps o o' target Nothing not_handed offers = subst (λ (v : OutboxesView). KeepsAll o v) (sym offers.0) (keeps-none o)
+pub offer-keeps : (o o' : OutboxesView) (way : ℕ) (result : Offered) → (result ≡ Handed → ⊥) → Offers o way result o' → KeepsAll o o'
+offer-keeps o o' way Handed not_handed offers = absurd (not_handed refl)
+offer-keeps o o' way Full not_handed offers = offers
+offer-keeps o o' way Nothing not_handed offers = subst (λ (v : OutboxesView). KeepsAll o v) (sym offers.0) (keeps-none o)
 
 -- nothing had moved before the first was sent
-pub sends-first : (o p q : OutboxesView) (target : ℕ) → KeepsAll o p → Sends p target q → Sends o target q
-sends-first o p q target keeps s = record {
+pub sends-first : (o p q : OutboxesView) (way : ℕ) → KeepsAll o p → Sends p way q → Sends o way q
+sends-first o p q way keeps s = record {
   envelope = s.envelope;
-  waits = sym (keeps.each target).waits ∙ s.waits;
-  sends = s.sends ∙ ap (option_map (λ (v : SenderView). after_offer v s.envelope)) (keeps.each target).sends;
+  waits = sym (keeps.each way).waits ∙ s.waits;
+  sends = s.sends ∙ ap (option_map (λ (v : SenderView). after_offer v s.envelope)) (keeps.each way).sends;
   others = λ y other. record { waits = (s.others y other).waits ∙ (keeps.each y).waits; sends = (s.others y other).sends ∙ (keeps.each y).sends };
   rest = λ entries holds. s.rest entries (keeps.holds entries holds);
 }

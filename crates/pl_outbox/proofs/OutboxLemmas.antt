@@ -1,4 +1,4 @@
--- One outbox among all, and what waits for its target.
+-- One outbox among all, and what waits at it.
 use Rattle.std.proofs.Common.{◌≡◌, ◌≢◌, ℕ, zero, suc, ◌+◌, ◌*◌, ◌<◌, ◌≤◌, ◌^◌, Bool, true, false, List, [], ◌∷◌, length, map, set, slice_get, Option, Some, None, refl, ap, sym, ◌∙◌, subst, ⊎_elim, arith, ◌==◌}
 use Rattle.std.specs.Prelude.{IfSome}
 use Rattle.std.specs.List.{All, filter, sum_by, find}
@@ -22,28 +22,28 @@ use Rattle.pl_outbox.specs.OutboxViews.{OutboxView, OutboxesView, IsOutbox, IsOu
 
 -- ---- a list in which one outbox has changed
 
-pub record Replaces (os os' : List OutboxView) (target : ℕ) (b b' : OutboxView) : Type 0 where
-  pub was : slice_get os target ≡ Some b
-  pub is : slice_get os' target ≡ Some b'
-  pub others : (y : ℕ) → y ≢ target → slice_get os' y ≡ slice_get os y
+pub record Replaces (os os' : List OutboxView) (way : ℕ) (b b' : OutboxView) : Type 0 where
+  pub was : slice_get os way ≡ Some b
+  pub is : slice_get os' way ≡ Some b'
+  pub others : (y : ℕ) → y ≢ way → slice_get os' y ≡ slice_get os y
   pub count : length os' ≡ length os
   pub made : sum_by (λ o. o.seat.made) os' + b.seat.made ≡ sum_by (λ o. o.seat.made) os + b'.seat.made
 
-pub replaces-set : (os : List OutboxView) (target : ℕ) (b b' : OutboxView) → slice_get os target ≡ Some b → Replaces os (set os target b') target b b'
-replaces-set os target b b' at =
-    let within = slice_get_within os target b at in record {
+pub replaces-set : (os : List OutboxView) (way : ℕ) (b b' : OutboxView) → slice_get os way ≡ Some b → Replaces os (set os way b') way b b'
+replaces-set os way b b' at =
+    let within = slice_get_within os way b at in record {
       was = at;
-      is = at-set_here os target b' within;
-      others = λ y other. at-set_there os target y b' other;
-      count = length-set os target b';
+      is = at-set_here os way b' within;
+      others = λ y other. at-set_there os way y b' other;
+      count = length-set os way b';
       made =
-          let s = sum_by-set (λ (o : OutboxView). o.seat.made) os target b' b within in
-          let g = ap (λ (o : OutboxView). o.seat.made) (get_or_from_slice_get os target b b at) in
+          let s = sum_by-set (λ (o : OutboxView). o.seat.made) os way b' b within in
+          let g = ap (λ (o : OutboxView). o.seat.made) (get_or_from_slice_get os way b b at) in
           omega (arith, s, g);
     }
 
-pub replaces-then : (os mid os' : List OutboxView) (target : ℕ) (b c d b' : OutboxView) → Replaces os mid target b c → Replaces mid os' target d b' → Replaces os os' target b b'
-replaces-then os mid os' target b c d b' r q = record {
+pub replaces-then : (os mid os' : List OutboxView) (way : ℕ) (b c d b' : OutboxView) → Replaces os mid way b c → Replaces mid os' way d b' → Replaces os os' way b b'
+replaces-then os mid os' way b c d b' r q = record {
   was = r.was;
   is = q.is;
   others = λ y other. q.others y other ∙ r.others y other;
@@ -54,31 +54,31 @@ replaces-then os mid os' target b c d b' r q = record {
 }
 
 -- a function of one outbox, or of none
-pub on-target : {X : Type 0} (f : OutboxView → X) (d : X) (os os' : List OutboxView) (target : ℕ) (b b' : OutboxView) → Replaces os os' target b b' → f b' ≡ f b
+pub on-way : {X : Type 0} (f : OutboxView → X) (d : X) (os os' : List OutboxView) (way : ℕ) (b b' : OutboxView) → Replaces os os' way b b' → f b' ≡ f b
     → (y : ℕ) → option_map_or f (slice_get os' y) d ≡ option_map_or f (slice_get os y) d
-on-target f d os os' target b b' r same y = ⊎_elim
-    (λ (e : y ≡ target). ap (λ k. option_map_or f (slice_get os' k) d) e ∙ ap (λ o. option_map_or f o d) r.is ∙ same ∙ sym (ap (λ k. option_map_or f (slice_get os k) d) e ∙ ap (λ o. option_map_or f o d) r.was))
-    (λ (e : y ≡ target → ⊥). ap (λ o. option_map_or f o d) (r.others y e))
-    (cases_eq y target)
+on-way f d os os' way b b' r same y = ⊎_elim
+    (λ (e : y ≡ way). ap (λ k. option_map_or f (slice_get os' k) d) e ∙ ap (λ o. option_map_or f o d) r.is ∙ same ∙ sym (ap (λ k. option_map_or f (slice_get os k) d) e ∙ ap (λ o. option_map_or f o d) r.was))
+    (λ (e : y ≡ way → ⊥). ap (λ o. option_map_or f o d) (r.others y e))
+    (cases_eq y way)
 
-pub on-some : {X : Type 0} (f : OutboxView → X) (os os' : List OutboxView) (target : ℕ) (b b' : OutboxView) → Replaces os os' target b b' → f b' ≡ f b
+pub on-some : {X : Type 0} (f : OutboxView → X) (os os' : List OutboxView) (way : ℕ) (b b' : OutboxView) → Replaces os os' way b b' → f b' ≡ f b
     → (y : ℕ) → option_map f (slice_get os' y) ≡ option_map f (slice_get os y)
-on-some f os os' target b b' r same y = ⊎_elim
-    (λ (e : y ≡ target). ap (λ k. option_map f (slice_get os' k)) e ∙ ap (option_map f) r.is ∙ ap (λ z. Some z) same ∙ sym (ap (λ k. option_map f (slice_get os k)) e ∙ ap (option_map f) r.was))
-    (λ (e : y ≡ target → ⊥). ap (option_map f) (r.others y e))
-    (cases_eq y target)
+on-some f os os' way b b' r same y = ⊎_elim
+    (λ (e : y ≡ way). ap (λ k. option_map f (slice_get os' k)) e ∙ ap (option_map f) r.is ∙ ap (λ z. Some z) same ∙ sym (ap (λ k. option_map f (slice_get os k)) e ∙ ap (option_map f) r.was))
+    (λ (e : y ≡ way → ⊥). ap (option_map f) (r.others y e))
+    (cases_eq y way)
 
 -- a target that was seen closed goes on to be so
-pub closed-on : (os os' : List OutboxView) (w w' : WaitingView AdmittedView) {ts ts' ws ws' : List ℕ} (target : ℕ) (b b' : OutboxView) → Replaces os os' target b b' → (is_closed b.seat.seen ≡ true → is_closed b'.seat.seen ≡ true)
+pub closed-on : (os os' : List OutboxView) (w w' : WaitingView AdmittedView) {ts ts' ws ws' : List ℕ} (way : ℕ) (b b' : OutboxView) → Replaces os os' way b b' → (is_closed b.seat.seen ≡ true → is_closed b'.seat.seen ≡ true)
     → SomeClosed (record { outboxes = os; waiting = w; tried = ts; ways = ws }) → SomeClosed (record { outboxes = os'; waiting = w'; tried = ts'; ways = ws' })
-closed-on os os' w w' target b b' r on s = ⊎_elim
-    (λ (e : s.target ≡ target).
+closed-on os os' w w' way b b' r on s = ⊎_elim
+    (λ (e : s.way ≡ way).
     let same : s.outbox ≡ b = same_Some s.outbox b (sym s.is ∙ ap (λ k. slice_get os k) e ∙ r.was) in
-    record { target = target; outbox = b'; is = r.is; closed = on (ap (λ (o : OutboxView). is_closed o.seat.seen) (sym same) ∙ s.closed) })
-    (λ (e : s.target ≡ target → ⊥). record { target = s.target; outbox = s.outbox; is = r.others s.target e ∙ s.is; closed = s.closed })
-    (cases_eq s.target target)
+    record { way = way; outbox = b'; is = r.is; closed = on (ap (λ (o : OutboxView). is_closed o.seat.seen) (sym same) ∙ s.closed) })
+    (λ (e : s.way ≡ way → ⊥). record { way = s.way; outbox = s.outbox; is = r.others s.way e ∙ s.is; closed = s.closed })
+    (cases_eq s.way way)
 
--- ---- what waits for a target
+-- ---- what waits at a way
 
 pub waits-entries : (w : WaitingView AdmittedView) (entries : List (Entry AdmittedView)) → Holds w entries → (y : ℕ) → waits_in w y ≡ map (λ e. e.envelope) (filter (is_for y) entries)
 waits-entries w entries h y = by (slice_get w.targets y) refl
@@ -91,21 +91,21 @@ waits-entries w entries h y = by (slice_get w.targets y) refl
 
 -- ---- what holds between two calls
 
--- One outbox has changed, and what waits for its target.
-pub outboxes-hold : (world : World) (os os' : List OutboxView) (w w' : WaitingView AdmittedView) (target : ℕ) (b b' : OutboxView) {ts ts' ws ws' : List ℕ} (is : IsOutboxes world (record { outboxes = os; waiting = w; tried = ts; ways = ws }))
-    → Replaces os os' target b b' → (entries : List (Entry AdmittedView)) → Holds w' entries → length w'.targets ≡ length w.targets
-    → IsOutbox world b' (filter (is_for target) entries) → ((y : ℕ) → y ≢ target → filter (is_for y) entries ≡ filter (is_for y) is.entries)
+-- One outbox has changed, and what waits at it.
+pub outboxes-hold : (world : World) (os os' : List OutboxView) (w w' : WaitingView AdmittedView) (way : ℕ) (b b' : OutboxView) {ts ts' ws ws' : List ℕ} (is : IsOutboxes world (record { outboxes = os; waiting = w; tried = ts; ways = ws }))
+    → Replaces os os' way b b' → (entries : List (Entry AdmittedView)) → Holds w' entries → length w'.targets ≡ length w.targets
+    → IsOutbox world b' (filter (is_for way) entries) → ((y : ℕ) → y ≢ way → filter (is_for y) entries ≡ filter (is_for y) is.entries)
     → w'.added + b.seat.made ≤ w.added + b'.seat.made → IsOutboxes world (record { outboxes = os'; waiting = w'; tried = ts'; ways = ws' })
-outboxes-hold world os os' w w' target b b' is r entries holds targets here others more = record {
+outboxes-hold world os os' w w' way b b' is r entries holds targets here others more = record {
   entries = entries;
   holds = holds;
   each = λ y c at. ⊎_elim
-      (λ (e : y ≡ target).
+      (λ (e : y ≡ way).
       let same : b' ≡ c = same_Some b' c (sym r.is ∙ ap (λ k. slice_get os' k) (sym e) ∙ at) in
       subst (λ (z : ℕ × OutboxView). IsOutbox world z.1 (filter (is_for z.0) entries)) (λ i. (sym e i, same i)) here)
-      (λ (e : y ≡ target → ⊥).
+      (λ (e : y ≡ way → ⊥).
       subst (λ (zs : List (Entry AdmittedView)). IsOutbox world c zs) (sym (others y e)) (is.each y c (sym (r.others y e) ∙ at)))
-      (cases_eq y target);
+      (cases_eq y way);
   targets = targets ∙ is.targets ∙ sym r.count;
   added = let m = r.made in let a = is.added in omega (arith, m, a, more);
   few = let n = r.count in let f = is.few in omega (arith, n, f);
@@ -135,10 +135,10 @@ outbox-same world b b' entries is sends kept made seat = record {
   made = made;
 }
 
--- what is found among all that wait is for a target that is there
+-- what is found among all that wait is for a way that is there
 pub found-there : (world : World) (o : OutboxesView) (is : IsOutboxes world o) (opens : ℕ → Bool) (found : Option ℕ) → found ≡ option_map (λ (e : Entry AdmittedView). e.target) (find (λ e. opens e.target) is.entries)
-    → IfSome found (λ target. target < length o.outboxes)
-found-there world o is opens found e = subst (λ (f : Option ℕ). IfSome f (λ target. target < length o.outboxes)) (sym e) (by (find (λ e. opens e.target) is.entries) refl)
+    → IfSome found (λ way. way < length o.outboxes)
+found-there world o is opens found e = subst (λ (f : Option ℕ). IfSome f (λ way. way < length o.outboxes)) (sym e) (by (find (λ e. opens e.target) is.entries) refl)
   where
     there : (aged : List (Aged AdmittedView)) → All (λ i. i.entry.target < length o.waiting.targets) aged → All (λ (e : Entry AdmittedView). e.target < length o.outboxes) (map (λ i. i.entry) aged)
     there [] all = All-nil (λ (e : Entry AdmittedView). e.target < length o.outboxes)
@@ -147,13 +147,13 @@ found-there world o is opens found e = subst (λ (f : Option ℕ). IfSome f (λ 
         (let h = All-head (λ i. i.entry.target < length o.waiting.targets) a aged all in let t = is.targets in omega (arith, h, t))
         (there aged (All-tail (λ i. i.entry.target < length o.waiting.targets) a aged all))
 
-    by : (f : Option (Entry AdmittedView)) → find (λ (e : Entry AdmittedView). opens e.target) is.entries ≡ f → IfSome (option_map (λ e. e.target) f) (λ target. target < length o.outboxes)
+    by : (f : Option (Entry AdmittedView)) → find (λ (e : Entry AdmittedView). opens e.target) is.entries ≡ f → IfSome (option_map (λ e. e.target) f) (λ way. way < length o.outboxes)
     by None e = tt
     by (Some x) e =
         find-All (λ (e : Entry AdmittedView). opens e.target) (λ (e : Entry AdmittedView). e.target < length o.outboxes) is.entries x
         (subst (λ (zs : List (Entry AdmittedView)). All (λ e. e.target < length o.outboxes) zs) (sym is.holds.entries_are) (there is.holds.aged is.holds.holds.there)) e
 
--- where no entry is, nothing waits for any target
+-- where no entry is, nothing waits at any way
 pub none-wait : (w : WaitingView AdmittedView) (entries : List (Entry AdmittedView)) → Holds w entries → (length entries == 0) ≡ true → (y : ℕ) → waits_in w y ≡ []
 none-wait w entries holds e y = waits-entries w entries holds y ∙ none entries e
   where
@@ -198,8 +198,8 @@ closed_seat-closed (o ∷ os) seat at = ⊎_elim
     (cases_Bool (is_closed o.seat.seen))
 
 -- There is one where any has.
-pub some-closed_seat : (os : List OutboxView) (target : ℕ) (b : OutboxView) → slice_get os target ≡ Some b → is_closed b.seat.seen ≡ true → (seat : SendSeatView) × (closed_seat os ≡ Some seat)
-some-closed_seat [] target b at closed = cc
+pub some-closed_seat : (os : List OutboxView) (way : ℕ) (b : OutboxView) → slice_get os way ≡ Some b → is_closed b.seat.seen ≡ true → (seat : SendSeatView) × (closed_seat os ≡ Some seat)
+some-closed_seat [] way b at closed = cc
 some-closed_seat (o ∷ os) zero b at closed =
     (o.seat, cond-true (is_closed o.seat.seen) (Some o.seat) (closed_seat os) (subst (λ (x : OutboxView). is_closed x.seat.seen ≡ true) (sym (same_Some o b at)) closed))
 some-closed_seat (o ∷ os) (suc n) b at closed =

@@ -11,7 +11,7 @@ use Rattle.pl_queue.specs.declared.mailbox.Mailbox as mailbox
 use Rattle.pl_words.specs.contracts.admission.Admitted as admitted
 use Rattle.pl_context.specs.contracts.waiting.Waiting as waiting
 use Rattle.pl_context.proofs.waiting.Waiting.TheSendSync as waits
-use Rattle.pl_outbox.specs.contracts.executor_set.ExecutorSet as executor_set
+use Rattle.pl_outbox.specs.contracts.number_set.NumberSet as number_set
 use Rattle.pl_outbox.specs.contracts.outboxes.Outboxes as outboxes
 use Rattle.pl_outbox.specs.contracts.outboxes.Outboxes.TheInside as outboxes_inside
 use Rattle.pl_outbox.proofs.inbox.Inbox.TheSendSync as inbox
@@ -24,9 +24,9 @@ admitted_send = search sendable depth 20
 pub waiting_send : IsSend (waiting.the_row admitted.the_row)
 waiting_send = waits.the_send admitted.the_row admitted_send
 
-executor_set_send : IsSend (executor_set.the_field).row
-executor_set_send =
-    let O = executor_set.the_type in
+number_set_send : IsSend (number_set.the_field).row
+number_set_send =
+    let O = number_set.the_type in
     let all : AllSend (fields O) = (search sendable, tt) in
     struct_send (shape O) all
 
@@ -36,5 +36,5 @@ module _ (a : NamedLft) (W M S T : RattleType) (w : named.Ghosts W.Denot) (m : m
       let o = outbox.the_send a W M S T w m s y in
       let i = inbox.the_sync W M S T y in
       let O = outboxes_inside.the_type a W M S T w m in
-      let all : AllSend (fields O) = (search (sendable, i) depth 20, (vec.the_send _ _ _ (search sendable) global.the_send global_allocator.the_frees, (vec.the_send _ _ _ o global.the_send global_allocator.the_frees, (waiting_send, (search sendable, (tries.the_send, (executor_set_send, (search sendable, tt)))))))) in
+      let all : AllSend (fields O) = (search (sendable, i) depth 20, (vec.the_send _ _ _ (search sendable) global.the_send global_allocator.the_frees, (vec.the_send _ _ _ o global.the_send global_allocator.the_frees, (waiting_send, (search sendable, (tries.the_send, (number_set_send, (search sendable, tt)))))))) in
       view_send _ _ _ _ _ (recorded_send _ _ O.to O.to_one (struct_send (shape O) all))

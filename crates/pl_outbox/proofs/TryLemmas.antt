@@ -25,8 +25,8 @@ among-below (suc n) y within = ⊎_elim
     (cases_eq y n)
 
 -- what is noted last is tried too
-pub tried_more : (ts : List ℕ) (target y : ℕ) → is_tried (ts ++ target ∷ []) y ≡ ((y == target) || is_tried ts y)
-tried_more ts target y = list_any-append (λ t. y == t) ts (target ∷ []) ∙ swap (is_tried ts y) (y == target)
+pub tried_more : (ts : List ℕ) (way y : ℕ) → is_tried (ts ++ way ∷ []) y ≡ ((y == way) || is_tried ts y)
+tried_more ts way y = list_any-append (λ t. y == t) ts (way ∷ []) ∙ swap (is_tried ts y) (y == way)
   where
     swap : (a b : Bool) → (a || (b || false)) ≡ (b || a)
     swap true true = refl
@@ -34,11 +34,11 @@ tried_more ts target y = list_any-append (λ t. y == t) ts (target ∷ []) ∙ s
     swap false true = refl
     swap false false = refl
 
-pub tried_again : (ts : List ℕ) (target y : ℕ) → is_tried ts target ≡ true → is_tried ts y ≡ ((y == target) || is_tried ts y)
-tried_again ts target y has = ⊎_elim
-    (λ (e : y ≡ target). ap (λ (k : ℕ). is_tried ts k) e ∙ has ∙ sym (ap (λ (b : Bool). b || is_tried ts y) (eq-eqb y target e)))
-    (λ (e : y ≡ target → ⊥). sym (ap (λ (b : Bool). b || is_tried ts y) (ne_eqb y target e)))
-    (cases_eq y target)
+pub tried_again : (ts : List ℕ) (way y : ℕ) → is_tried ts way ≡ true → is_tried ts y ≡ ((y == way) || is_tried ts y)
+tried_again ts way y has = ⊎_elim
+    (λ (e : y ≡ way). ap (λ (k : ℕ). is_tried ts k) e ∙ has ∙ sym (ap (λ (b : Bool). b || is_tried ts y) (eq-eqb y way e)))
+    (λ (e : y ≡ way → ⊥). sym (ap (λ (b : Bool). b || is_tried ts y) (ne_eqb y way e)))
+    (cases_eq y way)
 
 nothing-distinct : IsDistinct (λ (a : ℕ) (b : ℕ). a == b) []
 unfolding IsDistinct
@@ -51,22 +51,22 @@ none-tried v none = record {
 }
 
 -- one that was not tried is noted, and there is room for it
-module _ (v : TriesView) (is : IsTries v) (target : ℕ) (there : target < v.count) (new : is_tried v.tried target ≡ false) where
-  more-there : (y : ℕ) → is_tried (v.tried ++ target ∷ []) y ≡ true → y < v.count
+module _ (v : TriesView) (is : IsTries v) (way : ℕ) (there : way < v.count) (new : is_tried v.tried way ≡ false) where
+  more-there : (y : ℕ) → is_tried (v.tried ++ way ∷ []) y ≡ true → y < v.count
   more-there y member = ⊎_elim
-      (λ (e : y ≡ target). subst (λ (k : ℕ). k < v.count) (sym e) there)
-      (λ (e : y ≡ target → ⊥). is.there y (ap (λ (b : Bool). b || is_tried v.tried y) (sym (ne_eqb y target e)) ∙ sym (tried_more v.tried target y) ∙ member))
-      (cases_eq y target)
+      (λ (e : y ≡ way). subst (λ (k : ℕ). k < v.count) (sym e) there)
+      (λ (e : y ≡ way → ⊥). is.there y (ap (λ (b : Bool). b || is_tried v.tried y) (sym (ne_eqb y way e)) ∙ sym (tried_more v.tried way y) ∙ member))
+      (cases_eq y way)
 
-  pub tries-hold : (v' : TriesView) → v'.tried ≡ v.tried ++ target ∷ [] → v'.count ≡ v.count → IsTries v'
+  pub tries-hold : (v' : TriesView) → v'.tried ≡ v.tried ++ way ∷ [] → v'.count ≡ v.count → IsTries v'
   tries-hold v' tried count = record {
-    distinct = subst (λ (ts : List ℕ). IsDistinct (λ a b. a == b) ts) (sym tried) (IsDistinct-push nat_eq_equiv v.tried target is.distinct new);
+    distinct = subst (λ (ts : List ℕ). IsDistinct (λ a b. a == b) ts) (sym tried) (IsDistinct-push nat_eq_equiv v.tried way is.distinct new);
     there = λ y member. subst (λ (k : ℕ). y < k) (sym count) (more-there y (ap (λ ts. is_tried ts y) (sym tried) ∙ member));
   }
 
   pub tries_room : length v.tried < v.count
   tries_room =
-      let few = length-le_from_is_member nat_eq_equiv (v.tried ++ target ∷ []) (below v.count) (IsDistinct-push nat_eq_equiv v.tried target is.distinct new)
+      let few = length-le_from_is_member nat_eq_equiv (v.tried ++ way ∷ []) (below v.count) (IsDistinct-push nat_eq_equiv v.tried way is.distinct new)
       (λ y member. among-below v.count y (more-there y member)) in
-      let l = length-append v.tried (target ∷ []) in
+      let l = length-append v.tried (way ∷ []) in
       let n = length-below v.count in omega (arith, few, l, n)

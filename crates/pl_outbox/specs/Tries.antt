@@ -1,4 +1,4 @@
--- The targets whose queue a `hand` found full.
+-- The ways whose queue a `hand` found full.
 use Rattle.std.specs.Prelude.{◌≡◌, ℕ, ◌<◌, ◌==◌, Bool, true, List}
 use Rattle.std.specs.List.{list_any, IsDistinct}
 
@@ -8,9 +8,9 @@ pub record TriesView : Type 0 where
   pub count : ℕ
 
 abbrev pub is_tried : List ℕ → ℕ → Bool
-is_tried tried target = list_any (λ t. target == t) tried
+is_tried tried way = list_any (λ t. way == t) tried
 
 -- None is noted twice, and each is there.
 pub record IsTries (v : TriesView) : Type 0 where
   pub distinct : IsDistinct (λ a b. a == b) v.tried
-  pub there : (target : ℕ) → is_tried v.tried target ≡ true → target < v.count
+  pub there : (way : ℕ) → is_tried v.tried way ≡ true → way < v.count

@@ -1,6 +1,6 @@
 //! How an executor that rests is woken.
 
-use crate::executor_set::{ExecutorSet, Notes};
+use crate::number_set::{Notes, NumberSet};
 use crossbeam_utils::sync::Unparker;
 use std::sync::atomic::{AtomicU64, Ordering};
 
@@ -46,16 +46,16 @@ impl Bell {
     }
 
     /// Those that wait for room in its executor's queue. Nobody does any more.
-    pub fn take_waiters(&self) -> ExecutorSet {
+    pub fn take_waiters(&self) -> NumberSet {
         self.waiters.take()
     }
 
     /// Those that wait for room there, where they are to be woken though more may be taken, after so many envelopes.
-    pub fn take_waiters_after(&self, taken: u64) -> ExecutorSet {
+    pub fn take_waiters_after(&self, taken: u64) -> NumberSet {
         if taken % WAKE_EVERY == 0 {
             self.take_waiters()
         } else {
-            ExecutorSet::none()
+            NumberSet::none()
         }
     }
 }

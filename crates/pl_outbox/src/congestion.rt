@@ -1,6 +1,6 @@
 //! Whether too much waits at an executor for others.
 
-use crate::executor_set::{ExecutorSet, Notes};
+use crate::number_set::{Notes, NumberSet};
 use std::sync::atomic::{AtomicU64, Ordering};
 
 /// Where more envelopes wait than these, their executor is congested.
@@ -32,15 +32,15 @@ impl Congestion {
     }
 
     /// So many envelopes wait at its executor now. Those that are to be woken, since it no longer is congested.
-    pub fn update(&self, waiting: u64) -> ExecutorSet {
+    pub fn update(&self, waiting: u64) -> NumberSet {
         let was_on = self.is_on();
         let is_on = waiting > if was_on { LOW } else { HIGH };
         if is_on == was_on {
-            return ExecutorSet::none();
+            return NumberSet::none();
         }
         self.is_on.store(u64::from(is_on), Ordering::SeqCst);
         if is_on {
-            ExecutorSet::none()
+            NumberSet::none()
         } else {
             self.readers.take()
         }

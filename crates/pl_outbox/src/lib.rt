@@ -3,15 +3,15 @@
 
 mod bell;
 mod congestion;
-mod executor_set;
 mod inbox;
+mod number_set;
 mod outbox;
 mod outboxes;
 mod tries;
 
 pub use bell::Bell;
 pub use congestion::Congestion;
-pub use executor_set::ExecutorSet;
 pub use inbox::Inbox;
+pub use number_set::NumberSet;
 pub use outbox::Outbox;
 pub use outboxes::{NO_WAY, Outboxes};

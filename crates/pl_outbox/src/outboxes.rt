@@ -11,8 +11,8 @@ ghost use Rattle.pl_outbox.specs.OutboxViews.{IsNew, admissions, waits_for, send
 
 use crate::bell::WAKE_EVERY;
 use crate::congestion::Congestion;
-use crate::executor_set::ExecutorSet;
 use crate::inbox::Inbox;
+use crate::number_set::NumberSet;
 use crate::outbox::Outbox;
 use crate::tries::Tries;
 use pl_context::Waiting;
@@ -26,19 +26,18 @@ use std::sync::Wait;
 /// The number of no way.
 pub const NO_WAY: u16 = u16::MAX;
 
-/// What became of the oldest envelope for a target.
+/// What became of the oldest envelope of a way.
 #[derive(Clone, Copy, Debug, PartialEq, Eq)]
 enum Offered {
     /// It is in the queue.
     Handed,
     /// The queue answered that it is full. It waits where it did.
     Full,
-    /// Nothing waits for that target.
+    /// Nothing waits at that way.
     Nothing,
 }
 
-/// The ways to other executors, and the envelopes that wait for them. Each way has a number, and a target stands by that of the
-/// way to it.
+/// The ways of an executor, one to itself among them, each with a number, and the envelopes that wait for them.
 ///
 /// Each envelope that waits, and each that was sent, has an admission of its target: so a target that was closed with
 /// the number of envelopes that it took has nothing coming any more. On each lane what waits follows what was sent, with
@@ -53,11 +52,11 @@ pub struct Outboxes<'a, W: Named, M: Mailbox<W> + Drop> {
     waiting: Waiting<Admitted>,
     /// How many envelopes wait.
     waiting_count: u64,
-    /// The targets whose queue was found full by the last `hand`.
+    /// The ways whose queue was found full by the last `hand`.
     tries: Tries,
-    /// The targets to which something was sent, and which were not woken for it yet.
-    unrung: ExecutorSet,
-    /// How many envelopes were sent to these.
+    /// The ways by which something was sent, and whose executors were not woken for it yet.
+    unrung: NumberSet,
+    /// How many envelopes were sent by these.
     unrung_sent: u64,
 }
 
@@ -99,7 +98,7 @@ impl<'a, W: Named, M: Mailbox<W> + Drop> Outboxes<'a, W, M> {
             tries: Tries::new(alloc, outboxes.len())?,
             outboxes,
             waiting_count: 0,
-            unrung: ExecutorSet::none(),
+            unrung: NumberSet::none(),
             unrung_sent: 0,
         })
     }
@@ -129,24 +128,24 @@ impl<'a, W: Named, M: Mailbox<W> + Drop> Outboxes<'a, W, M> {
         }
     }
 
-    /// Adds an envelope for a target.
-    fn add_for(&mut self, target: usize, envelope: Envelope) -> Result<(), Refused>
-        requires there { target < length self.old.outboxes }
-        requires place { HasPlaces (stops_for self.old.waiting target) (envelope.lane ∷ []) }
-        requires next { is_cut self.old target envelope.lane ≡ false → IsNext W.world (reached self.old target envelope.lane) envelope }
-        ensures adds { Adds self.old target envelope self.new }
-        ensures comes { IfOk result (λ _. Comes self.old target envelope self.new) }
-        ensures refused { IfErr result (λ refusal. RefusedBy self.old target refusal self.new) }
+    /// Adds an envelope for a way.
+    fn add_for(&mut self, way: usize, envelope: Envelope) -> Result<(), Refused>
+        requires there { way < length self.old.outboxes }
+        requires place { HasPlaces (stops_for self.old.waiting way) (envelope.lane ∷ []) }
+        requires next { is_cut self.old way envelope.lane ≡ false → IsNext W.world (reached self.old way envelope.lane) envelope }
+        ensures adds { Adds self.old way envelope self.new }
+        ensures comes { IfOk result (λ _. Comes self.old way envelope self.new) }
+        ensures refused { IfErr result (λ refusal. RefusedBy self.old way refusal self.new) }
     {
-        match self.outboxes[target].admit() {
+        match self.outboxes[way].admit() {
             Err(refused) => {
                 envelope.discard();
                 Err(refused)
             }
             Ok(admitted) => {
-                match self.waiting.add(target, envelope, admitted) {
+                match self.waiting.add(way, envelope, admitted) {
                     None => self.waiting_count = self.waiting_count.saturating_add(1),
-                    Some(admitted) => self.outboxes[target].give_up(admitted),
+                    Some(admitted) => self.outboxes[way].give_up(admitted),
                 }
                 Ok(())
             }
@@ -167,24 +166,24 @@ impl<'a, W: Named, M: Mailbox<W> + Drop> Outboxes<'a, W, M> {
         (waiting, closed_seat(outboxes))
     }
 
-    /// Hands over the oldest envelope whose queue has room. Each queue is tried once. The target to which it went, or None
+    /// Hands over the oldest envelope whose queue has room. Each queue is tried once. The way by which it went, or None
     /// where nothing waits but for queues that are full.
     pub fn hand<R: Wait>(&mut self, rt: &R) -> Option<usize>
-        ensures handed { IfSome result (λ target. Sends self.old target self.new) }
+        ensures handed { IfSome result (λ way. Sends self.old way self.new) }
         ensures none { IfNone result ((y : ℕ) → SameFor self.old self.new y) }
-        // The target of the oldest, among those whose queue was not found full by this call.
+        // The way of the oldest, among those whose queue was not found full by this call.
         ensures oldest { (entries : List (Entry AdmittedView)) → Holds self.old.waiting entries → result ≡ oldest_untried self.new entries }
         ensures stays { Stays self.old self.new }
     {
         self.forget_tries();
         for _ in rt.forever() {
-            let Some(target) = self.oldest() else {
+            let Some(way) = self.oldest() else {
                 self.ring_for_sent();
                 return None;
             };
-            if let Offered::Handed = self.offer(rt, target) {
+            if let Offered::Handed = self.offer(rt, way) {
                 self.ring_for_many();
-                return Some(target);
+                return Some(way);
             }
         }
         unreachable!()
@@ -198,71 +197,60 @@ impl<'a, W: Named, M: Mailbox<W> + Drop> Outboxes<'a, W, M> {
         self.tries.clear();
     }
 
-    /// The target of the oldest envelope, among the targets whose queue this `hand` has not found full.
+    /// The way of the oldest envelope, among those whose queue this `hand` has not found full.
     fn oldest(&self) -> Option<usize>
-        ensures there { IfSome result (λ target. target < length self.now.outboxes) }
+        ensures there { IfSome result (λ way. way < length self.now.outboxes) }
         ensures oldest { (entries : List (Entry AdmittedView)) → Holds self.now.waiting entries
             → result ≡ oldest_untried self.now entries }
     {
         let tries = &self.tries;
         self.waiting.oldest(
-            |target|
-                ensures { result ≡ not (is_tried tries.entry.now.tried target) }
-            { !tries.has(target) },
+            |way|
+                ensures { result ≡ not (is_tried tries.entry.now.tried way) }
+            { !tries.has(way) },
         )
     }
 
-    /// Offers the oldest envelope for a target to its queue. Where that is full what waits, if anything does, waits where it
-    /// did, and the target counts as tried.
-    fn offer<R: Wait>(&mut self, rt: &R, target: usize) -> Offered
-        requires there { target < length self.old.outboxes }
-        ensures offers { Offers self.old target result self.new }
-        ensures full { FullOnce M.ends W.world self.old target result }
+    /// Offers the oldest envelope of a way to its queue. Where that is full what waits, if anything does, waits where it
+    /// did, and the way counts as tried.
+    fn offer<R: Wait>(&mut self, rt: &R, way: usize) -> Offered
+        requires there { way < length self.old.outboxes }
+        ensures offers { Offers self.old way result self.new }
+        ensures full { FullOnce M.ends W.world self.old way result }
         ensures stays { Stays self.old self.new }
-        ensures tried { (y : ℕ) → was_tried self.new y ≡ tried_after self.old target result y }
+        ensures tried { (y : ℕ) → was_tried self.new y ≡ tried_after self.old way result y }
     {
         // What a full queue would hand back is not taken out for it.
-        if self.is_full(target) {
-            self.tries.add(target);
+        if self.is_full(way) {
+            self.tries.add(way);
             return Offered::Full;
         }
-        self.offer_oldest(rt, target)
-    }
-
-    /// The same, where its queue was not found full beforehand.
-    fn offer_oldest<R: Wait>(&mut self, rt: &R, target: usize) -> Offered
-        requires there { target < length self.old.outboxes }
-        ensures offers { Offers self.old target result self.new }
-        ensures full { FullOnce M.ends W.world self.old target result }
-        ensures stays { Stays self.old self.new }
-        ensures tried { (y : ℕ) → was_tried self.new y ≡ tried_after self.old target result y }
-    {
-        let Some((envelope, admitted)) = self.waiting.take(target) else {
+        let Some((envelope, admitted)) = self.waiting.take(way) else {
             return Offered::Nothing;
         };
-        match self.outboxes[target].offer(rt, envelope) {
+        match self.outboxes[way].offer(rt, envelope) {
             Ok(()) => {
                 admitted.sent();
                 self.waiting_count = self.waiting_count.saturating_sub(1);
-                self.unrung = self.unrung.with(target);
+                self.unrung = self.unrung.with(way);
                 self.unrung_sent = self.unrung_sent.saturating_add(1);
                 Offered::Handed
             }
             Err(Full { envelope }) => {
-                self.waiting.put_back(target, envelope, admitted);
-                self.tries.add(target);
+                self.waiting.put_back(way, envelope, admitted);
+                self.tries.add(way);
                 Offered::Full
             }
         }
     }
 
-    /// Whether the queue of a target is found full.
-    fn is_full(&mut self, target: usize) -> bool
-        requires there { target < length self.old.outboxes }
+    /// Whether the queue of a way is found full.
+    fn is_full(&mut self, way: usize) -> bool
+        requires there { way < length self.old.outboxes }
         ensures same { self.new ≡ self.old }
-        ensures full { result ≡ true → (sends : SenderView) × (sends_for self.old target ≡ Some sends) × WasFull M.ends W.world sends }
+        ensures full { result ≡ true → (sends : SenderView) × (sends_for self.old way ≡ Some sends) × WasFull M.ends W.world sends }
     {
-        self.outboxes[target].is_full()
+        self.outboxes[way].is_full()
     }
 
     /// Whether nothing waits.
@@ -292,8 +280,8 @@ impl<'a, W: Named, M: Mailbox<W> + Drop> Outboxes<'a, W, M> {
 
     /// Notes at each queue that the last `hand` found full that an executor waits for room there.
     pub fn note_waiter(&self, executor: usize) {
-        for &target in self.tries.as_slice() {
-            if let Some(outbox) = self.outboxes.get(target) {
+        for &way in self.tries.as_slice() {
+            if let Some(outbox) = self.outboxes.get(way) {
                 outbox.inbox.bell.note_waiter(executor);
             }
         }
@@ -313,14 +301,14 @@ impl<'a, W: Named, M: Mailbox<W> + Drop> Outboxes<'a, W, M> {
         ensures { self.new ≡ self.old }
     {
         let unrung = self.unrung;
-        self.unrung = ExecutorSet::none();
+        self.unrung = NumberSet::none();
         self.unrung_sent = 0;
         unrung.each_of(self.outboxes.as_slice(), |outbox| outbox.inbox.bell.ring());
     }
 
     /// Wakes these executors. Mostly there are none.
     #[inline(always)]
-    pub fn ring(&self, executors: ExecutorSet) {
+    pub fn ring(&self, executors: NumberSet) {
         executors.each_of(self.inboxes, |inbox| inbox.bell.ring());
     }
 }

@@ -1,4 +1,4 @@
-//! The targets whose queue a `hand` found full.
+//! The ways whose queue a `hand` found full.
 
 ghost use Rattle.std.specs.Prelude.{◌≡◌, ℕ, [], ◌<◌, ◌==◌, ◌||◌, IfOk};
 ghost use Rattle.pl_outbox.specs.Tries.{is_tried};
@@ -6,10 +6,10 @@ ghost use Rattle.pl_outbox.specs.Tries.{is_tried};
 use std::alloc::{AllocError, Global};
 use std::marker::Model;
 
-/// The targets whose queue a `hand` found full. Room for all of them is taken at the start, so noting one takes no memory.
+/// The ways whose queue a `hand` found full. Room for all of them is taken at the start, so noting one takes no memory.
 #[derive(Drop)]
 pub(crate) struct Tries {
-    targets: Vec<usize>,
+    ways: Vec<usize>,
 }
 
 impl Model for Tries {
@@ -18,37 +18,37 @@ impl Model for Tries {
 
     ghost Value = { TriesView };
 
-    ghost view = { λ t. record { tried = t.targets.items; count = vec_capacity t.targets } };
+    ghost view = { λ t. record { tried = t.ways.items; count = vec_capacity t.ways } };
 
-    ghost invariant = { λ t. IsTries (record { tried = t.targets.items; count = vec_capacity t.targets }) };
+    ghost invariant = { λ t. IsTries (record { tried = t.ways.items; count = vec_capacity t.ways }) };
 }
 
 impl Tries {
-    /// None of so many targets was tried.
+    /// None of so many ways was tried.
     pub(crate) fn new(alloc: Global, count: usize) -> Result<Self, AllocError>
         ensures { IfOk result (λ new. new ≡ record { tried = []; count = count }) }
     {
         Ok(Tries {
-            targets: Vec::with_capacity(alloc, count)?,
+            ways: Vec::with_capacity(alloc, count)?,
         })
     }
 
-    /// Whether a target was tried, and its queue found full.
-    pub(crate) fn has(&self, target: usize) -> bool
-        ensures { result ≡ is_tried self.now.tried target }
+    /// Whether a way was tried, and its queue found full.
+    pub(crate) fn has(&self, way: usize) -> bool
+        ensures { result ≡ is_tried self.now.tried way }
     {
-        self.targets.iter().any(|&other| target == other)
+        self.ways.iter().any(|&other| way == other)
     }
 
-    /// Notes that a target was tried.
+    /// Notes that a way was tried.
     #[tactic(auto, using(crate::proofs::TryLemmas::tried_more, crate::proofs::TryLemmas::tried_again, crate::proofs::TryLemmas::tries_room))]
-    pub(crate) fn add(&mut self, target: usize)
-        requires there { target < self.old.count }
-        ensures tried { (y : ℕ) → is_tried self.new.tried y ≡ ((y == target) || is_tried self.old.tried y) }
+    pub(crate) fn add(&mut self, way: usize)
+        requires there { way < self.old.count }
+        ensures tried { (y : ℕ) → is_tried self.new.tried y ≡ ((y == way) || is_tried self.old.tried y) }
         ensures count { self.new.count ≡ self.old.count }
     {
-        if !self.has(target) {
-            self.targets.push_reserved(target);
+        if !self.has(way) {
+            self.ways.push_reserved(way);
         }
     }
 
@@ -56,11 +56,11 @@ impl Tries {
     pub(crate) fn clear(&mut self)
         ensures { self.new ≡ record self.old { tried = [] } }
     {
-        self.targets.clear();
+        self.ways.clear();
     }
 
     /// Those that were tried, in this order.
     pub(crate) fn as_slice(&self) -> &[usize] {
-        self.targets.as_slice()
+        self.ways.as_slice()
     }
 }

@@ -25,9 +25,11 @@ use Rattle.pl_context.specs.ContextViews.{ContextView, has_down, down_hop}
 use Rattle.pl_context.specs.Contexts.{StandsAfter}
 use Rattle.pl_head.specs.declared.inputs.ReadPlan.{ReadPlan}
 use Rattle.pl_head.specs.InputStand.{InputView, InputStands, fed_plan, takes_bursts}
-use Rattle.pl_head.specs.HeadStand.{HeadView, ReadsStand, fed_head}
+use Rattle.pl_head.specs.HeadCalls.{HeadFeeds}
+use Rattle.pl_head.specs.HeadStand.{HeadView, fed_head}
 use Rattle.pl_head.specs.Transports.{TransportState}
 use Rattle.pl_head.proofs.FedPlans.{fed_stands}
+use Rattle.pl_part.proofs.HeadTaken.{took-from}
 use Rattle.pl_part.specs.LaneStages.{LaneStage}
 use Rattle.pl_part.specs.ContextHolds.{IsWired, IsPlanned, HoldsWith, ContextHolds}
 use Rattle.pl_part.specs.TailHolds.{MayFailFor, TailHolds, TailHoldsWith}
@@ -149,23 +151,8 @@ module _ {T : Type 0} (state : T → TransportState) (burst : List Element) (h :
   head-took events rest s all =
       let size = length-append events rest in
       let within = s.within in
-      record {
-        gone = s.gone;
-        bytes = s.bytes;
-        flushed = s.flushed;
-        never = s.never;
-        ys = s.ys;
-        zs = s.zs;
-        sizes = s.sizes;
-        after = s.after;
-        count = s.count;
-        within = omega (arith, within, size);
-        in_order = s.in_order ∙ sym (take-append-le s.count events rest within);
-        most = s.most;
-        running = s.running;
-        ended = λ e. s.ended e ∙ ap (λ (xs : List Event). length xs) (sym (all e));
-        none_late = s.none_late;
-      }
+      took-from state events h (fed_head burst h) s s.sizes s.after refl refl (events ++ rest) (omega (arith, within, size)) (sym (take-append-le s.count events rest within)) s.most s.running
+      (λ e. s.ended e ∙ ap (λ (xs : List Event). length xs) (sym (all e)))
 
   head-grows : (world world' : World) (rest : List Event) (s : HeadHolds state world h) → world'.refuses ≡ world.refuses → (h.standing ≡ standings.Ended → s.events ++ rest ≡ s.events)
       → content_of world' (data_lane h.channel h.hop) ≡ Some (s.events ++ rest) → length (s.events ++ rest) + 1 < MAX_ITEMS
@@ -212,11 +199,9 @@ module _ {S T : Type 0} (p v : ChannelPartView S T) (is : v ≡ p) (h : HeadView
     pub kept-of : h' ≡ h → record v { head = Some h' } ≡ p
     kept-of same = ap (λ (x : HeadView T). record v { head = Some x }) same ∙ (λ i. record { path = v.path; head = sym at i }) ∙ is
 
-    pub reads-of : ((bursts : Bursts) (reads : ℕ) → ReadsStand (fed_plan bursts) reads false h → ReadsStand (fed_plan (bursts ++ burst ∷ [])) reads false h')
-        → (x fed : HeadView T) (bursts : Bursts) (reads : ℕ) → p.head ≡ Some x → Some h' ≡ Some fed → ReadsStand (fed_plan bursts) reads false x → ReadsStand (fed_plan (bursts ++ burst ∷ [])) reads false fed
-    reads-of stand x fed bursts reads own new s =
-        subst (λ (y : HeadView T). ReadsStand (fed_plan (bursts ++ burst ∷ [])) reads false y) (same_Some h' fed new)
-        (stand bursts reads (subst (λ (y : HeadView T). ReadsStand (fed_plan bursts) reads false y) (same_Some x h (sym own ∙ has-head)) s))
+    pub feeds-of : HeadFeeds burst h h' → (x fed : HeadView T) → p.head ≡ Some x → Some h' ≡ Some fed → HeadFeeds burst x fed
+    feeds-of feeds x fed own new =
+        subst (λ (y : HeadView T). HeadFeeds burst x y) (same_Some h' fed new) (subst (λ (y : HeadView T). HeadFeeds burst y h') (same_Some h x (sym has-head ∙ own)) feeds)
 
 -- ---- a part
 

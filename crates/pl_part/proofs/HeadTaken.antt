@@ -1,5 +1,5 @@
 -- What a head took of its lane, when it has taken no more events.
-use Rattle.std.proofs.Common.{◌≡◌, ℕ, ◌≤◌, Bool, false, [], List, refl, sym, ap, ◌∙◌, arith}
+use Rattle.std.proofs.Common.{◌≡◌, ℕ, ◌≤◌, Bool, false, [], List, length, take, refl, sym, ap, ◌∙◌, arith}
 use Rattle.std.proofs.lemmas.Bool.{both_ways}
 use Rattle.pl_event.specs.declared.events.Event.{Event}
 use Rattle.pl_context.specs.declared.standing.Standing.TheVariants as standings
@@ -12,8 +12,10 @@ use Rattle.pl_part.specs.HeadHolds.{HeadTook}
 module _ {T : Type 0} (state : T → TransportState) (events : List Event) where
   module _ (h h' : HeadView T) (t : HeadTook state events h) (sizes : List Change) (after : HeadStandsAfter state h' t.ys t.zs sizes) (standing : h'.standing ≡ h.standing)
       (kept : gone_of h' ≡ gone_of h) where
-    pub took-again : t.count ≤ h'.taken → (lane_over h' ≡ false → h'.taken ≡ t.count) → HeadTook state events h'
-    took-again most running = record {
+    -- The same, of a lane that carries other events, of which those that it took are the first.
+    pub took-from : (events' : List Event) → t.count ≤ length events' → take t.count events ≡ take t.count events' → t.count ≤ h'.taken → (lane_over h' ≡ false → h'.taken ≡ t.count)
+        → (h.standing ≡ standings.Ended → t.count ≡ length events') → HeadTook state events' h'
+    took-from events' within same most running ended = record {
       gone = t.gone;
       bytes = ap (λ (x : ℕ × Bool). x.0) kept ∙ t.bytes;
       flushed = t.flushed;
@@ -23,13 +25,16 @@ module _ {T : Type 0} (state : T → TransportState) (events : List Event) where
       sizes = sizes;
       after = after;
       count = t.count;
-      within = t.within;
-      in_order = t.in_order;
+      in_order = t.in_order ∙ same;
+      within = within;
       most = most;
       running = running;
-      ended = λ o. t.ended (sym standing ∙ o);
+      ended = λ o. ended (sym standing ∙ o);
       none_late = λ o. t.none_late (ap is_over (sym standing) ∙ o);
     }
+
+    pub took-again : t.count ≤ h'.taken → (lane_over h' ≡ false → h'.taken ≡ t.count) → HeadTook state events h'
+    took-again most running = took-from events t.within refl most running t.ended
 
     -- nor any item
     pub took-same : h'.taken ≡ h.taken → lane_over h' ≡ lane_over h → HeadTook state events h'

@@ -1,5 +1,5 @@
 -- What the standing of several nodes together says of each.
-use Rattle.std.proofs.Common.{◌≡◌, ℕ, zero, suc, Bool, true, false, List, [], ◌∷◌, get_or, Option, Some, None, refl, sym, ap, subst, ◌∙◌}
+use Rattle.std.proofs.Common.{◌≡◌, ℕ, zero, suc, true, false, List, [], ◌∷◌, get_or, Option, Some, None, refl, sym, ap, subst, ◌∙◌}
 use Rattle.std.specs.Option.{option_map_or}
 use Rattle.std.proofs.lemmas.Bool.{both_ways}
 use Rattle.std.proofs.lemmas.Option.{none-some, same_Some}
@@ -9,7 +9,7 @@ use Rattle.pl_context.specs.declared.standing.Standing.TheVariants as standings
 use Rattle.pl_context.specs.Standings.{has_failed, cause_of, together}
 use Rattle.pl_context.specs.ContextViews.{ContextView}
 use Rattle.pl_context.specs.TailViews.{TailView}
-use Rattle.pl_head.specs.HeadStand.{HeadView, first_cause, head_cause}
+use Rattle.pl_head.specs.HeadStand.{HeadView, first_cause}
 use Rattle.pl_part.specs.Paths.{context_at, path_standing, slots_stand}
 use Rattle.pl_part.specs.Parts.{ChannelPartView, head_standing, part_standing}
 

@@ -101,23 +101,29 @@ module _ (world : World) (events : List Event) (t : TailView) (h : TailHoldsWith
     few_flags = h.few_flags;
   }
 
+  -- With its record and its standing as they were it holds after these counts, and with these flags.
+  kept-with : (taken flags_taken : ℕ) (flags : List Bool) (stopped : Bool) (room : ℕ) → (t.standing ≡ standings.Open → (taken ≤ length events) × (h.gone ++ t.events ≡ take taken events)) → taken ≤ MAX_ITEMS
+      → Alternate 0 flags → length flags ≤ flags_taken → (has_failed t.standing ≡ false → stopped ≡ false → length flags ≡ flags_taken) → flags_taken ≤ 2 ^ 32
+      → Held (record t { taken = taken; flags_taken = flags_taken; flags = flags; flags_stopped = stopped; flags_room = room })
+  kept-with taken flags_taken flags stopped room within few_taken alternate most all few_flags = record {
+    own = h.own;
+    few = h.few;
+    gone = h.gone;
+    handed = h.handed;
+    taken = λ o. within o;
+    ended = λ o. h.ended o;
+    failed = λ f. h.failed f;
+    may = h.may;
+    flags = alternate;
+    flags_most = most;
+    flags_all = λ f s. all f s;
+    few_taken = few_taken;
+    few_flags = few_flags;
+  }
+
   counted-over : is_over t.standing ≡ true → t.taken + 1 ≤ MAX_ITEMS → Held (counted Data t)
   counted-over over small =
-      record {
-        own = h.own;
-        few = h.few;
-        gone = h.gone;
-        handed = h.handed;
-        taken = λ o. absurd (both_ways (is_over t.standing) (ap is_over o) over);
-        ended = h.ended;
-        failed = h.failed;
-        may = h.may;
-        flags = h.flags;
-        flags_most = h.flags_most;
-        flags_all = h.flags_all;
-        few_taken = small;
-        few_flags = h.few_flags;
-      }
+      kept-with (t.taken + 1) t.flags_taken t.flags t.flags_stopped t.flags_room (λ o. absurd (both_ways (is_over t.standing) (ap is_over o) over)) small h.flags h.flags_most h.flags_all h.few_flags
 
   taken-open : t.standing ≡ standings.Open → (i : Item) → Fits events t.taken i → MayCome world i → (answer : Took) (t' : TailView) → RecordsItem (counted Data t) i answer t' → Held t'
   taken-open live (item.Event x) fits may took.Ran t' r = subst (λ (z : TailView). Held z) (sym r.0) (recorded live x fits t'.room)
@@ -133,21 +139,7 @@ module _ (world : World) (events : List Event) (t : TailView) (h : TailHoldsWith
   -- a flag more was taken, and added or not
   flag-counted : t.flags_taken < 2 ^ 32 → (flags : List Bool) (stopped : Bool) (room : ℕ) → Alternate 0 flags → length flags ≤ t.flags_taken + 1
       → (has_failed t.standing ≡ false → stopped ≡ false → length flags ≡ t.flags_taken + 1) → Held (record (counted Flags t) { flags = flags; flags_stopped = stopped; flags_room = room })
-  flag-counted small flags stopped room alternate most all = record {
-    own = h.own;
-    few = h.few;
-    gone = h.gone;
-    handed = h.handed;
-    taken = h.taken;
-    ended = h.ended;
-    failed = h.failed;
-    may = h.may;
-    flags = alternate;
-    flags_most = most;
-    flags_all = all;
-    few_taken = h.few_taken;
-    few_flags = omega (arith, small);
-  }
+  flag-counted small flags stopped room alternate most all = kept-with t.taken (t.flags_taken + 1) flags stopped room h.taken h.few_taken alternate most all (omega (arith, small))
 
   flag-lost : (has_failed t.standing ≡ false → t.flags_stopped ≡ false → ⊥) → t.flags_taken < 2 ^ 32 → Held (counted Flags t)
   flag-lost none small = flag-counted small t.flags t.flags_stopped t.flags_room h.flags (let most = h.flags_most in omega (arith, most)) (λ f s. absurd (none f s))

@@ -1,5 +1,5 @@
 -- A channel that is fed a burst: its part with that burst to read, between a world and one in which its lanes carry more.
-use Rattle.std.specs.Prelude.{◌≡◌, ℕ, ◌+◌, ◌<◌, true, false, List, ◌++◌, length, Some}
+use Rattle.std.specs.Prelude.{◌≡◌, ℕ, ◌+◌, ◌<◌, true, List, ◌++◌, length, Some}
 use Rattle.std.specs.Option.{option_map}
 use Rattle.pl_event.specs.declared.elements.Element.{Element}
 use Rattle.pl_event.specs.declared.events.Event.{Event}

@@ -1,5 +1,5 @@
 -- Parts whose nodes have taken nothing, in a world that knows their lanes.
-use Rattle.std.specs.Prelude.{◌≡◌, ℕ, ◌+◌, ◌<◌, true, false, List, [], ◌∷◌, ◌++◌, get_or, length, slice_get, Option, Some, None}
+use Rattle.std.specs.Prelude.{◌≡◌, ℕ, ◌+◌, ◌<◌, true, false, List, [], ◌∷◌, ◌++◌, All, get_or, length, slice_get, Option, Some, None}
 use Rattle.pl_event.specs.declared.events.Event.{Event}
 use Rattle.pl_event.specs.declared.envelopes.Kind.{Kind}
 use Rattle.pl_event.specs.declared.envelopes.Lane.{Lane}
@@ -42,6 +42,12 @@ pub record ArePlannedWith {S : Type 0} (world : World) (meaning : S → Meaning)
   pub planned_inbound : ArePlanned world meaning channel (length inbound) turn 0 inbound
   pub planned_tail : (events : List Event) × (content_of world (data_lane channel (length inbound)) ≡ Some events) × (length events + 1 < MAX_ITEMS)
   pub planned_outbound : ArePlanned world meaning channel (length inbound) turn (length inbound + 1) outbound
+
+-- The stages of a new channel. They have had no step, and some world knows the lanes of their hops.
+pub record AreNewStages {S : Type 0} (meaning : S → Meaning) (stands_after : S → List Event → Type 0) (channel turn : ℕ) (inbound outbound : List S) : Type 0 where
+  pub new_inbound : All (λ stage. stands_after stage []) inbound
+  pub new_outbound : All (λ stage. stands_after stage []) outbound
+  pub planned : (world : World) × ArePlannedWith world meaning channel turn inbound outbound
 
 module _ {S : Type 0} (meaning : S → Meaning) (channel k : ℕ) where
   -- the slots of these stages at consecutive hops, of which the first is this: none has taken or made anything

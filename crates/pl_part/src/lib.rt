@@ -12,3 +12,4 @@ mod shares;
 pub use kept::KeptStage;
 pub use laws::head_law;
 pub use parts::ChannelPart;
+pub use shares::take_where;

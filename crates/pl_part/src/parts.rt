@@ -1,10 +1,9 @@
 //! The nodes of a channel that are on one executor, with the head.
 
-ghost use Rattle.std.specs.Prelude.{◌≡◌, ℕ, ◌+◌, ◌<◌, ◌≤◌, ◌^◌, ◌==◌, ◌++◌, ◌∷◌, [], List, All, IfOk, IfSome, IfNone, IsTrue, Some, None, ◌||◌, map, replicate, is_some, length, get_or, true, false, OnOk, OnErr, not};
+ghost use Rattle.std.specs.Prelude.{◌≡◌, ℕ, ◌+◌, ◌<◌, ◌≤◌, ◌^◌, ◌==◌, ◌++◌, ◌∷◌, [], List, IfOk, IfSome, IfNone, IsTrue, Some, None, ◌||◌, map, replicate, is_some, length, get_or, true, false, OnOk, OnErr, not};
 ghost use Rattle.std.specs.Option.{option_map_or};
 ghost use Rattle.pl_event.specs.declared.envelopes.Kind.TheVariants as kind;
 ghost use Rattle.pl_event.specs.declared.limits.TheConstants.{MAX_ITEMS};
-ghost use Rattle.pl_event.specs.Inputs.{Bursts};
 ghost use Rattle.pl_event.specs.Worlds.{World};
 ghost use Rattle.pl_context.specs.declared.contexts.TheConstants.{MAX_HANDLERS};
 ghost use Rattle.pl_context.specs.declared.standing.Standing.TheVariants as standings;
@@ -12,11 +11,12 @@ ghost use Rattle.pl_context.specs.Standings.{is_over};
 ghost use Rattle.pl_context.specs.ContextViews.{ContextView};
 ghost use Rattle.pl_context.specs.Stops.{HasPlaces};
 ghost use Rattle.pl_context.specs.TailViews.{new_tail};
-ghost use Rattle.pl_head.specs.HeadStand.{HeadView, HeadStandsAfter, ReadsStand, can_forget, is_idle};
-ghost use Rattle.pl_head.specs.InputStand.{fed_plan, items_left, takes_bursts};
+ghost use Rattle.pl_head.specs.HeadCalls.{HeadFeeds};
+ghost use Rattle.pl_head.specs.HeadStand.{HeadView, HeadStandsAfter, can_forget, is_idle};
+ghost use Rattle.pl_head.specs.InputStand.{items_left, takes_bursts};
 ghost use Rattle.pl_event.specs.declared.events.Event.{Event};
 ghost use Rattle.pl_head.specs.Marks.{Change};
-ghost use Rattle.pl_part.specs.NewParts.{ArePlannedWith, AreNewSlots, whole_slots};
+ghost use Rattle.pl_part.specs.NewParts.{AreNewStages, ArePlannedWith, AreNewSlots, whole_slots};
 ghost use Rattle.pl_part.specs.HeadHolds.{HeadHolds};
 ghost use Rattle.pl_part.specs.Paths.{PathRefuses, context_at, writer_hop};
 ghost use Rattle.pl_part.specs.Parts.{PartHolds, PartTakes, PartReads, PartWrites, PartMoves, PartAborts, head_hop, has_read, all_over, head_standing, part_gone, part_standing, part_lanes};
@@ -69,9 +69,7 @@ impl<S: Stage, T: Transport> ChannelPart<S, T> {
         requires few { length inbound.items + length outbound.items ≤ MAX_HANDLERS }
         requires hops { length executors.items ≡ length inbound.items + length outbound.items + 2 }
         requires turn { turn < length inbound.items }
-        requires new_inbound { All (λ stage. S.stands_after stage []) inbound.items }
-        requires new_outbound { All (λ stage. S.stands_after stage []) outbound.items }
-        requires planned { (world : World) × ArePlannedWith world S.meaning channel turn inbound.items outbound.items }
+        requires stages { AreNewStages S.meaning S.stands_after channel turn inbound.items outbound.items }
         requires last { (head.channel ≡ channel) × (head.hop ≡ length inbound.items + length outbound.items + 1) }
         ensures path { IfOk result (λ part. (part.path.channel ≡ channel) × (part.path.executors ≡ executors.items) × (part.path.tail_hop ≡ length inbound.items) × (part.path.turn ≡ turn)) }
         ensures contexts { IfOk result (λ part. part.path.contexts ≡ whole_slots S.meaning channel inbound.items outbound.items) }
@@ -125,6 +123,13 @@ impl<S: Stage, T: Transport> ChannelPart<S, T> {
         self.path.hops()
     }
 
+    /// The head's hop, the last.
+    pub fn head_hop(&self) -> usize
+        ensures { result ≡ head_hop self.now }
+    {
+        self.path.head_hop()
+    }
+
     /// The node that the envelope's lane enters takes it, the next item of that lane. It answers what the node answers.
     pub fn take(&mut self, envelope: Envelope, work: &mut Outputs) -> Took
         requires next { (world : World) × IsNextFor world S.meaning S.stands_after T.state self.old envelope work.old }
@@ -171,8 +176,7 @@ impl<S: Stage, T: Transport> ChannelPart<S, T> {
         requires few { (h : HeadView T) → self.old.head ≡ Some h → h.input.port.made + items_left h.input.steps (h.input.left ++ burst ∷ []) < MAX_ITEMS }
         ensures fed { OnOk result (self.new ≡ fed_part burst self.old) }
         ensures kept { OnErr result (self.new ≡ self.old) }
-        ensures reads { OnOk result ((h fed : HeadView T) (bursts : Bursts) (reads : ℕ) → self.old.head ≡ Some h → self.new.head ≡ Some fed → ReadsStand (fed_plan bursts) reads false h
-            → ReadsStand (fed_plan (bursts ++ burst ∷ [])) reads false fed) }
+        ensures feeds { OnOk result ((h fed : HeadView T) → self.old.head ≡ Some h → self.new.head ≡ Some fed → HeadFeeds burst h fed) }
     {
         match &mut self.head {
             Some(head) => head.feed(burst),

@@ -1,6 +1,6 @@
 //! The nodes of a channel that are on one executor, but its head.
 
-ghost use Rattle.std.specs.Prelude.{◌≡◌, ◌+◌, ◌<◌, ◌≤◌, ◌^◌, ◌++◌, ◌∷◌, [], All, IfOk, IfSome, IfNone, Some, None, map, replicate, is_some, cond, length, get_or, true, false, ◌==◌, OnErr, OnOk, not};
+ghost use Rattle.std.specs.Prelude.{◌≡◌, ◌+◌, ◌<◌, ◌≤◌, ◌^◌, ◌++◌, ◌∷◌, [], IfOk, IfSome, IfNone, Some, None, map, replicate, is_some, cond, length, get_or, true, false, ◌==◌, OnErr, OnOk, not};
 ghost use Rattle.std.specs.List.{list_all};
 ghost use Rattle.std.specs.Option.{option_map_or};
 ghost use Rattle.pl_event.specs.declared.envelopes.Lane.{Lane};
@@ -15,7 +15,7 @@ ghost use Rattle.pl_context.specs.TailViews.{TailView, new_tail};
 ghost use Rattle.pl_flow.specs.Flows.{IsGood};
 ghost use Rattle.pl_flow.specs.LanesViews.{KeepsPlaces};
 ghost use Rattle.pl_flow.specs.Makes.{Makes};
-ghost use Rattle.pl_part.specs.NewParts.{ArePlannedWith, AreNewSlots, whole_slots};
+ghost use Rattle.pl_part.specs.NewParts.{AreNewStages, ArePlannedWith, AreNewSlots, whole_slots};
 ghost use Rattle.pl_part.specs.Counts.{path_done};
 ghost use Rattle.pl_part.specs.PathCalls.{IsNextOnPath, PathTaken, PathRefused};
 ghost use Rattle.pl_part.specs.Paths.{PathHolds, PathTakes, PathRefuses, SamePath, context_at, writer_hop, enters_path, path_over, path_standing, is_slot_over, path_taken, path_lanes, path_writes, path_writes_at, path_came};
@@ -73,9 +73,7 @@ impl<S: Stage> PathPart<S> {
         requires few { length inbound.items + length outbound.items ≤ MAX_HANDLERS }
         requires hops { length executors.items ≡ length inbound.items + length outbound.items + 2 }
         requires turn { turn < length inbound.items }
-        requires new_inbound { All (λ stage. S.stands_after stage []) inbound.items }
-        requires new_outbound { All (λ stage. S.stands_after stage []) outbound.items }
-        requires planned { (world : World) × ArePlannedWith world S.meaning channel turn inbound.items outbound.items }
+        requires stages { AreNewStages S.meaning S.stands_after channel turn inbound.items outbound.items }
         ensures path { IfOk result (λ part. (part.channel ≡ channel) × (part.executors ≡ executors.items) × (part.tail_hop ≡ length inbound.items) × (part.turn ≡ turn)) }
         ensures contexts { IfOk result (λ part. part.contexts ≡ whole_slots S.meaning channel inbound.items outbound.items) }
         ensures filled { IfOk result (λ part. map (λ slot. is_some slot) part.contexts ≡ replicate (length inbound.items) true ++ false ∷ replicate (length outbound.items) true) }
@@ -113,7 +111,7 @@ impl<S: Stage> PathPart<S> {
         ensures { result ≡ writer_hop self.now hop }
     {
         if hop == 0 {
-            self.contexts.len()
+            self.head_hop()
         } else if hop == self.tail_hop + 1 {
             self.turn
         } else {
@@ -121,14 +119,14 @@ impl<S: Stage> PathPart<S> {
         }
     }
 
-    /// How many hops there are: those of its channel, and the head's.
+    /// How many hops its channel has. The last is the head's.
     pub(crate) fn hops(&self) -> usize
         ensures { result ≡ length self.now.executors }
     {
         self.executors.len()
     }
 
-    /// The head's hop, behind the last context's.
+    /// The head's hop, the last.
     pub(crate) fn head_hop(&self) -> usize
         ensures { result ≡ length self.now.contexts }
     {
@@ -246,7 +244,7 @@ impl<S: Stage> PathPart<S> {
     pub(crate) fn head_executor(&self) -> usize
         ensures { result ≡ executor_of self.now (length self.now.contexts) }
     {
-        self.executors[self.contexts.len()] as usize
+        self.executors[self.head_hop()] as usize
     }
 
     /// Takes the nodes of an executor out. Those of the others stay. An `Err` is out of memory, and changes nothing.

@@ -10,18 +10,18 @@ pub struct SendCount {
     pub ended: bool,
 }
 
-/// What a sender knows: its lanes, the count of its pushes, and the envelope that it pushed last.
-pub struct SenderView {
-    pub send_counts: LinkedList<SendCount>,
-    pub pushes: u64,
-    pub last: Option<Envelope>,
-}
-
 /// The taker's next number of a lane.
 #[derive(Clone, Copy, Debug, Drop)]
 pub struct TakeCount {
     pub lane: Lane,
     pub next: u64,
+}
+
+/// What a sender knows: its lanes, the count of its pushes, and the envelope that it pushed last.
+pub struct SenderView {
+    pub send_counts: LinkedList<SendCount>,
+    pub pushes: u64,
+    pub last: Option<Envelope>,
 }
 
 /// What the taker knows: its next number of each lane, the count of its pops, and the envelope that it popped last.

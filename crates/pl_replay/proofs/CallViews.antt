@@ -1,6 +1,8 @@
 -- What a call of one channel's part is, as executors see the nodes of all channels.
 use Rattle.std.proofs.Common.{◌≡◌, ℕ, Bool, true, false, List, length, slice_get, Some, refl, ap, sym, ◌∙◌, subst, ⊎_elim, arith}
+use Rattle.std.specs.Global.{Vec}
 use Rattle.std.specs.Prelude.{◌==◌, nat_lt}
+use Rattle.std.specs.Vec.{with_item}
 use Rattle.std.proofs.lemmas.Bool.{cases_Bool, both_ways, and_parts, and_from, eqb-true, eq-eqb, lt-ltb}
 use Rattle.pl_event.specs.declared.events.Event.{Event}
 use Rattle.pl_event.specs.declared.envelopes.Envelope.{Envelope}
@@ -16,9 +18,10 @@ use Rattle.pl_head.specs.Transports.{TransportState}
 use Rattle.pl_part.specs.Paths.{writer_hop}
 use Rattle.pl_part.specs.Parts.{ChannelPartView, PartHolds, head_hop, part_writes, writes_at, part_came}
 use Rattle.pl_part.specs.PartCalls.{NodePuts, Taken, Given}
-use Rattle.pl_net.specs.NodesViews.{NodesView, NodesPut, NodesTake, NodesGive, NodesMake, written_by}
+use Rattle.pl_net.specs.NodesViews.{NodesView, NodesPut, NodesTake, NodesGive, NodesMake, HeadGives, written_by}
 use Rattle.pl_channel.specs.Channels.{executor_at, home_of, target_of, origin_of, writes_here, writes_of, came_of, ChannelsStand}
 use Rattle.pl_channel.proofs.OneChannel.{at-is, at-was, changed, done-more, few-done, home-stays, is-written, origin-stays, own-channel, part-stands, places-stay, routes-stay, still-stand, taken-none, taken-one, target-stays, unchanged}
+use Rattle.pl_replay.specs.Moves.{nodes_view, nodes_stand}
 use Rattle.pl_replay.specs.Views.{channels_view}
 
 module _ {S T : Type 0} (ps : List (ChannelPartView S T)) (c : ℕ) (p p' : ChannelPartView S T) (was : slice_get ps c ≡ Some p) (meaning : S → Meaning) (stands_after : S → List Event → Type 0) (state : T → TransportState)
@@ -108,15 +111,25 @@ module _ {S T : Type 0} (ps : List (ChannelPartView S T)) (c : ℕ) (p p' : Chan
     at-home : executor_at p (head_hop p) ≡ home_of ps c
     at-home = sym (at-was ps c p p' was (λ (q : ChannelPartView S T). executor_at q (head_hop q)) 0 c refl)
 
-    pub give-view : NodesGive before (home_of ps c) b after a
+    give-view : NodesGive before (home_of ps c) b after a
     give-view = record {
       puts = subst (λ (x : ℕ). NodesPut before x b after a) at-home (puts (head_hop p) b a t.puts);
       taken = taken-none ps c p p' was t.taken;
       more = let n = t.more in let m = done-more ps c p p' was (length a.items) (length b.items) 0 (omega (arith, n)) in omega (arith, m);
     }
 
-    pub give-stands : ChannelsStand world meaning stands_after state now
+    give-stands : ChannelsStand world meaning stands_after state now
     give-stands = still-stand ps c p p' was meaning stands_after state world stands (t.holds world holds) t.puts.same t.puts.few
 
-    pub give-makes : NodesMake world before (home_of ps c) b after a
+    give-makes : NodesMake world before (home_of ps c) b after a
     give-makes = subst (λ (x : ℕ). NodesMake world before x b after a) at-home (makes (head_hop p) b a t.puts.others (t.made world holds))
+
+-- all that a call of the head of a channel gives
+pub head-gives : {S T : Type 0} (parts : Vec (ChannelPartView S T)) (c : ℕ) (p p' : ChannelPartView S T) (was : slice_get parts.items c ≡ Some p) (meaning : S → Meaning) (stands_after : S → List Event → Type 0) (state : T → TransportState)
+    (stands : (world : World) × ChannelsStand world meaning stands_after state parts.items) (b a : OutputsView) → Given meaning stands_after state p (head_hop p) b p' a
+    → HeadGives (nodes_view {S = S} {T = T} meaning) (nodes_stand meaning stands_after state) (record { parts = parts }) c b (record { parts = with_item parts c p' }) a
+head-gives parts c p p' was meaning stands_after state stands b a given = record {
+  view = give-view parts.items c p p' was meaning stands_after state stands.0 stands.1 b a given;
+  stands = λ world held. give-stands parts.items c p p' was meaning stands_after state world held b a given;
+  makes = λ world held. give-makes parts.items c p p' was meaning stands_after state world held b a given;
+}

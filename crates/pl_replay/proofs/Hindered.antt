@@ -1,6 +1,6 @@
 -- What says that a move is enabled, and what hinders it.
 use Rattle.std.proofs.Common.{◌≡◌, ℕ, ◌<◌, ◌≤◌, Bool, true, false, ◌==◌, ◌&&◌, not, List, [], length, slice_get, nat_lt, Option, Some, None, refl, ap, sym, ◌∙◌, subst, arith}
-use Rattle.std.specs.Prelude.{is_some, is_none, IfSome, IsSome}
+use Rattle.std.specs.Prelude.{is_some, IsSome}
 use Rattle.std.specs.List.{find, position}
 use Rattle.std.specs.Option.{option_map, option_map_or}
 use Rattle.std.proofs.lemmas.Bool.{eqb-true, eqb-false, lt-ltb, ltb-true}
@@ -17,11 +17,10 @@ use Rattle.pl_head.specs.ReadSteps.{has_step}
 use Rattle.pl_head.specs.Transports.{TransportState}
 use Rattle.pl_context.specs.WaitingViews.{Entry, Holds}
 use Rattle.pl_net.specs.Nets.{StationView, queue_at, has_room}
-use Rattle.pl_net.specs.Stations.{stations_view}
 use Rattle.pl_net.specs.declared.stations.Stations.{Stations}
 use Rattle.pl_part.specs.Parts.{ChannelPartView}
 use Rattle.pl_channel.specs.Channels.{MayRead, MayWrite}
-use Rattle.pl_replay.specs.Hindrances.{Hinders, OfHead, TellsHindrance}
+use Rattle.pl_replay.specs.Hindrances.{OfHead, TellsHindrance}
 use Rattle.pl_replay.specs.MoveModel.{is_there}
 use Rattle.pl_replay.specs.NetStand.{NetStands}
 use Rattle.pl_replay.specs.declared.channels.Channels.{Channels}

@@ -1,5 +1,5 @@
 -- The stages of a net, each by what the lane of its hop carries.
-use Rattle.std.proofs.Common.{◌≡◌, ℕ, suc, ◌+◌, false, true, List, [], ◌∷◌, ◌++◌, length, map, replicate, get_or, slice_get, Bool, Option, Some, None, refl, sym, ap, subst, ◌∙◌, arith}
+use Rattle.std.proofs.Common.{◌≡◌, ℕ, suc, ◌+◌, false, true, List, [], ◌∷◌, ◌++◌, length, map, replicate, slice_get, Bool, Option, Some, None, refl, sym, ap, subst, ◌∙◌, arith}
 use Rattle.std.specs.Prelude.{is_some}
 use Rattle.std.specs.List.{AllZip}
 use Rattle.std.proofs.lemmas.Option.{same_Some}
@@ -20,7 +20,7 @@ use Rattle.pl_part.proofs.PartSteps.{filled-length}
 use Rattle.pl_channel.specs.Lanes.{world_of}
 use Rattle.pl_channel.proofs.LaneContents.{content-planned, lane-within}
 use Rattle.pl_replay.specs.NetStand.{NetStands}
-use Rattle.pl_replay.specs.Stages.{HasLaneStages}
+use Rattle.pl_replay.specs.LaneStages.{HasLaneStages}
 use Rattle.pl_replay.specs.declared.channels.Channels.{Channels}
 use Rattle.pl_world.specs.Plans.{ChannelPlan, Plan, content}
 

@@ -1,7 +1,8 @@
 pub mod CallViews
 pub mod IdleStations
-pub mod Kept
+pub mod PlanKept
 pub mod MoveSteps
+pub mod Applied
 pub mod NetStarts
 pub mod NetEnds
 pub mod LaneStages

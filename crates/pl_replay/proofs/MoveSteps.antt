@@ -23,7 +23,7 @@ use Rattle.pl_channel.specs.Channels.{home_of, executor_at}
 use Rattle.pl_replay.specs.Moves.{nodes_view, nodes_stand, nodes_take, oldest, IsEnabled, MakesMove, LeadsTo}
 use Rattle.pl_replay.specs.NetStand.{NetStands}
 use Rattle.pl_replay.specs.declared.channels.Channels.{Channels}
-use Rattle.pl_replay.proofs.Kept.{makes-keeps}
+use Rattle.pl_replay.proofs.PlanKept.{makes-keeps}
 use Rattle.pl_world.specs.declared.moves.Move.{Move}
 use Rattle.pl_world.specs.declared.moves.Move.TheVariants.{Hand}
 use Rattle.pl_world.specs.Plans.{Plan}
@@ -45,10 +45,6 @@ module _ {S T : Type 0} (meaning : S → Meaning) (stands_after : S → List Eve
   GoesOn move stations made stations' = (plan : Plan) (backlogs : ℕ → List (Entry (Unit {0}))) → NetStands meaning stands_after state plan backlogs stations
       → (after : ℕ → List (Entry (Unit {0}))) × NetStands meaning stands_after state plan after stations'
       × LeadsTo meaning stands_after is_spent state may_refuse plan.capacity move (stations_view stations backlogs) made (stations_view stations' after)
-
-  -- for another view of the stations, and the same move
-  pub goes-on-as : (step move : Move) → step ≡ move → (stations seen : Stations (Channels S T)) → stations ≡ seen → (made : Bool) (stations' : Stations (Channels S T)) → GoesOn move stations made stations' → GoesOn step seen made stations'
-  goes-on-as step move is stations seen view made stations' on = subst (λ (y : Move × Stations (Channels S T)). GoesOn y.0 y.1 made stations') (λ i. (sym is i, view i)) on
 
   -- so some plan is still kept
   pub stands-on : (move : Move) (stations : Stations (Channels S T)) (made : Bool) (stations' : Stations (Channels S T)) → GoesOn move stations made stations'

@@ -1,10 +1,11 @@
 pub mod Views
 pub mod Idle
 pub mod Starts
-pub mod Stages
+pub mod LaneStages
 pub mod MoveModel
 pub mod Moves
 pub mod NetStand
+pub mod Applied
 pub mod Hindrances
 pub mod Reported
 pub mod Replays

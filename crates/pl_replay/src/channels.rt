@@ -31,7 +31,7 @@ impl<S: Stage, T: Transport> Nodes for Channels<S, T> {
 
     fn home(&self, channel: usize) -> usize {
         let part = &self.parts[channel];
-        part.target(part.hops() - 1)
+        part.target(part.head_hop())
     }
 
     fn target(&self, lane: Lane) -> usize {

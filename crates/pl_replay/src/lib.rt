@@ -4,10 +4,10 @@
 mod account_laws;
 mod channels;
 mod idle;
+mod kept;
 mod nets;
 mod replaying;
 mod reporting;
-mod stages;
 
 pub use account_laws::account_law;
 pub use channels::Channels;

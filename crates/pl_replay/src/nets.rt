@@ -1,23 +1,19 @@
 //! The channels and executors of a replay, and the moves that they make.
 
-ghost use Rattle.std.specs.Prelude.{◌≡◌, ◌≤◌, All, ℕ, List, length, Ok, Err, false, true, IfOk, IfErr, MatchOption, map, slice_get, Some};
+ghost use Rattle.std.specs.Prelude.{◌≡◌, ◌≤◌, All, ℕ, List, length, IfOk, IfErr, MatchOption, map, slice_get, Some};
 ghost use Rattle.pl_context.specs.WaitingViews.{Entry};
 ghost use Rattle.pl_context.specs.TailViews.{TailView};
-ghost use Rattle.pl_net.specs.Stations.{stations_view, IsUnmoved, IsUnmovedButRoom};
-ghost use Rattle.pl_net.specs.Nets.{LacksMemory};
 ghost use Rattle.pl_part.specs.Keeping.{part_stages};
 ghost use Rattle.pl_part.specs.Parts.{ChannelPartView};
 ghost use Rattle.pl_world.specs.declared.faults.ReplayFault.TheVariants as fault;
 ghost use Rattle.pl_world.specs.declared.limits.TheConstants.{MAX_CAPACITY};
-ghost use Rattle.pl_world.specs.declared.moves.Move.TheVariants.{Hand};
 ghost use Rattle.pl_world.specs.Plans.{Plan, planned};
 ghost use Rattle.pl_channel.specs.WholeParts.{AreWholeParts};
 ghost use Rattle.pl_replay.specs.Starts.{NetBegins, transports_of};
 ghost use Rattle.std.specs.List.{AllZip};
 ghost use Rattle.pl_world.specs.Reports.{AllKeepToPlan, AllReportPlan};
 ghost use Rattle.pl_replay.specs.Reported.{AreDrained, HasEnds, IsPartReport};
-ghost use Rattle.pl_replay.specs.MoveModel.{is_there, is_hand};
-ghost use Rattle.pl_replay.specs.Stages.{HasLaneStages};
+ghost use Rattle.pl_replay.specs.LaneStages.{HasLaneStages};
 
 mod hindrances;
 mod looking;
@@ -25,8 +21,8 @@ mod watching;
 
 use crate::channels::Channels;
 use crate::idle::idle_stations;
+use crate::kept::stages_of;
 use crate::reporting::{are_drained, into_reports, reports_of};
-use crate::stages::stages_of;
 pub use hindrances::Hindrance;
 use pl_channel::{lane_count, whole_parts};
 use pl_event::Stage;
@@ -60,7 +56,7 @@ impl<S: Stage, T: Transport> Model for Net<S, T> {
 }
 
 impl<S: Stage, T: Transport> Net<S, T> {
-    ghost use Rattle.pl_replay.specs.Moves.{IsEnabled, LeadsTo};
+    ghost use Rattle.pl_replay.specs.Applied.{IsApplied};
     ghost use Rattle.pl_replay.specs.NetStand.{NetStands};
 
     /// A world before any move, whose queues hold at most `capacity` items each, from 1 to `MAX_CAPACITY`. An `Err` is
@@ -84,23 +80,7 @@ impl<S: Stage, T: Transport> Net<S, T> {
     /// not grow: nothing was handed over, and the net goes on as it was. A growth that is refused in a move ends what it was for, as
     /// the report tells, and the move was made.
     pub fn apply(&mut self, step: Move) -> Result<bool, ReplayFault>
-        ensures made { IfOk result (λ made. (plan : Plan) (backlogs : ℕ → List (Entry Unit)) → NetStands S.meaning S.stands_after T.state plan backlogs self.old
-            → (after : ℕ → List (Entry Unit)) × NetStands S.meaning S.stands_after T.state plan after self.new
-            × LeadsTo S.meaning S.stands_after S.is_spent T.state T.may_refuse plan.capacity step (stations_view self.old backlogs) made (stations_view self.new after)) }
-        ensures unmoved { result ≡ Ok false → IsUnmoved self.old self.new }
-        // `NoSuch` is answered exactly where the move names a channel or an executor that is not there.
-        ensures there { (plan : Plan) (backlogs : ℕ → List (Entry Unit)) → NetStands S.meaning S.stands_after T.state plan backlogs self.old → is_there plan step ≡ false → result ≡ Err fault.NoSuch }
-        ensures no_such { result ≡ Err fault.NoSuch → (plan : Plan) (backlogs : ℕ → List (Entry Unit)) → NetStands S.meaning S.stands_after T.state plan backlogs self.old → is_there plan step ≡ false }
-        ensures same { result ≡ Err fault.NoSuch → self.new ≡ self.old }
-        // `Memory` is answered only of a hand-over that is enabled, and the net goes on by the same plan: its capacity is as it was.
-        ensures hand_alone { result ≡ Err fault.Memory → is_hand step ≡ true }
-        ensures wanted { result ≡ Err fault.Memory → (plan : Plan) (backlogs : ℕ → List (Entry Unit)) → NetStands S.meaning S.stands_after T.state plan backlogs self.old
-            → IsEnabled S.meaning S.stands_after S.is_spent T.state T.may_refuse plan.capacity step (stations_view self.old backlogs) true }
-        // It comes only where the queue of the item that would go has no memory for one more.
-        ensures refused { result ≡ Err fault.Memory → (plan : Plan) (backlogs : ℕ → List (Entry Unit)) → NetStands S.meaning S.stands_after T.state plan backlogs self.old
-            → (x : ℕ) × (step ≡ Hand x) × LacksMemory plan.capacity x (stations_view self.old backlogs) }
-        ensures memory { result ≡ Err fault.Memory → IsUnmovedButRoom self.old self.new }
-        ensures goes_on { result ≡ Err fault.Memory → (plan : Plan) (backlogs : ℕ → List (Entry Unit)) → NetStands S.meaning S.stands_after T.state plan backlogs self.old → NetStands S.meaning S.stands_after T.state plan backlogs self.new }
+        ensures applied { IsApplied S.meaning S.stands_after S.is_spent T.state T.may_refuse step self.old result self.new }
     {
         self.apply_watched(step, &mut NoWatch)
     }

@@ -5,7 +5,7 @@ ghost use Rattle.pl_event.specs.declared.events.Event.{Event};
 ghost use Rattle.pl_stages.specs.Flushes.{flush_every, flush_every-lawful, flushes, is_flush_event, passes};
 
 use crate::limits::MAX_FLUSHES;
-use crate::stage_refusal::StageRefusal;
+use crate::stage_refusal::{StageRefusal, within};
 use pl_event::{BareStage, Direction, Event, Fused, Stage, Taken, Turned};
 
 /// Passes every n-th flush, and every event that is not a flush (`docs/FORMATS.md`, "Handlers").
@@ -25,9 +25,7 @@ impl FlushEvery {
         ensures stands { IfOk result (λ s. ⟦<Fused<FlushEvery> as Stage>⟧.stands_after s []) }
         ensures unspent { IfOk result (λ s. ⟦<Fused<FlushEvery> as Stage>⟧.is_spent s ≡ false) }
     {
-        if n == 0 || n > MAX_FLUSHES {
-            return Err(StageRefusal::Limit);
-        }
+        within(n, MAX_FLUSHES)?;
         Ok(Fused::new(FlushEvery { n, held_back: 0 }))
     }
 

@@ -9,7 +9,7 @@ ghost use Rattle.pl_stages.specs.LengthSteps.{KeepsFrame, IsUnfinished, IsOneFra
 
 use crate::length_width::is_width;
 use crate::limits::MAX_FRAME;
-use crate::stage_refusal::StageRefusal;
+use crate::stage_refusal::{StageRefusal, within};
 use byteorder::{BigEndian, ByteOrder};
 use pl_event::{
     BareStage, ByteString, Caught, Changed, Direction, Event, Fused, Message, Stage, Taken, Turned,
@@ -55,9 +55,10 @@ impl LengthFramer {
         ensures stands { IfOk result (λ s. ⟦<Fused<LengthFramer> as Stage>⟧.stands_after s []) }
         ensures unspent { IfOk result (λ s. ⟦<Fused<LengthFramer> as Stage>⟧.is_spent s ≡ false) }
     {
-        if !is_width(width) || max == 0 || max > MAX_FRAME {
+        if !is_width(width) {
             return Err(StageRefusal::Limit);
         }
+        within(max, MAX_FRAME)?;
         Ok(Fused::new(LengthFramer {
             width,
             max,

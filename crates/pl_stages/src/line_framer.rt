@@ -8,7 +8,7 @@ ghost use Rattle.pl_stages.specs.Cutting.{joined, cutting-lawful};
 ghost use Rattle.pl_stages.specs.LineFraming.{line_framing, lines_of, framed, without_return, open_segment, AddsLines, KeepsAfter, KeepsSegment};
 
 use crate::limits::MAX_LINE;
-use crate::stage_refusal::StageRefusal;
+use crate::stage_refusal::{StageRefusal, within};
 use memchr::memchr;
 use pl_event::{
     BareStage, ByteString, Caught, Changed, Direction, Event, Fused, Message, Stage, Taken, Turned,
@@ -41,9 +41,7 @@ impl LineFramer {
         ensures stands { IfOk result (λ s. ⟦<Fused<LineFramer> as Stage>⟧.stands_after s []) }
         ensures unspent { IfOk result (λ s. ⟦<Fused<LineFramer> as Stage>⟧.is_spent s ≡ false) }
     {
-        if max == 0 || max > MAX_LINE {
-            return Err(StageRefusal::Limit);
-        }
+        within(max, MAX_LINE)?;
         Ok(Fused::new(LineFramer {
             max,
             partial: ByteString::from_vec(Vec::new(alloc)),

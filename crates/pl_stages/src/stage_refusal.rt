@@ -1,5 +1,7 @@
 //! Why a handler is not made.
 
+ghost use Rattle.std.specs.Prelude.{◌≤◌, ◌↔◌, IsOk};
+
 use std::error::Error;
 use std::fmt;
 
@@ -21,3 +23,13 @@ impl fmt::Display for StageRefusal {
 }
 
 impl Error for StageRefusal {}
+
+/// Tests that a handler's parameter is from 1 to its limit.
+pub(crate) fn within(parameter: usize, most: usize) -> Result<(), StageRefusal>
+    ensures { IsOk result ↔ ((1 ≤ parameter) × (parameter ≤ most)) }
+{
+    if parameter == 0 || parameter > most {
+        return Err(StageRefusal::Limit);
+    }
+    Ok(())
+}

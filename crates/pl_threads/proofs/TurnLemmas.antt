@@ -20,19 +20,19 @@ nothing-then o p q f g = record { sends = λ y. g.sends y ∙ f.sends y; tried =
 
 -- ---- at most one is sent
 
-pub hand-sends : (o p q : OutboxesView) (handed : Option ℕ) → IfSome handed (λ target. Sends o target p) → IfNone handed ((y : ℕ) → SameFor o p y)
+pub hand-sends : (o p q : OutboxesView) (handed : Option ℕ) → IfSome handed (λ way. Sends o way p) → IfNone handed ((y : ℕ) → SameFor o p y)
     → ((entries : List (Entry AdmittedView)) → Holds o.waiting entries → handed ≡ oldest_untried p entries) → SendsNothing p q → SendsAtMostOne o q
 hand-sends o p q None sent none oldest rest = inl (record {
   oldest = λ entries holds. untried-same p q entries (λ y. ap (λ ts. is_tried ts y) rest.tried) ∙ sym (oldest entries holds);
   sends = λ y. rest.sends y ∙ (none y).sends;
 })
-hand-sends o p q (Some target) sent none oldest rest = inr (record {
-  target = target;
+hand-sends o p q (Some way) sent none oldest rest = inr (record {
+  way = way;
   oldest = λ entries holds. untried-same p q entries (λ y. ap (λ ts. is_tried ts y) rest.tried) ∙ sym (oldest entries holds);
   envelope = sent.envelope;
   behind = _;
   first = sent.waits;
-  sends = rest.sends target ∙ sent.sends;
+  sends = rest.sends way ∙ sent.sends;
   others = λ y other. rest.sends y ∙ (sent.others y other).sends;
 })
 
@@ -42,10 +42,10 @@ one-or-none : {A B : Type 0} (b : Bool) → (b ≡ false → A) → (b ≡ true 
 one-or-none false none one = inl (none refl)
 one-or-none true none one = inr (one refl)
 
-pub hands-one : {N : Type 0} (e e' : ExecutorView N) (handed : Option ℕ) → e' ≡ record e { outboxes = e'.outboxes } → IfSome handed (λ target. Sends e.outboxes target e'.outboxes)
+pub hands-one : {N : Type 0} (e e' : ExecutorView N) (handed : Option ℕ) → e' ≡ record e { outboxes = e'.outboxes } → IfSome handed (λ way. Sends e.outboxes way e'.outboxes)
     → IfNone handed ((y : ℕ) → SameFor e.outboxes e'.outboxes y) → Hands e e'
 hands-one e e' None same sent none = record { same = same; sends = inl none }
-hands-one e e' (Some target) same sent none = record { same = same; sends = inr (target, sent) }
+hands-one e e' (Some way) same sent none = record { same = same; sends = inr (way, sent) }
 
 only-none : {N : Type 0} (e : ExecutorView N) → OnlyServes e e
 only-none e = record { number = refl; takes = refl; sends = nothing-none e.outboxes; owner = refl; turns = refl }

@@ -14,15 +14,15 @@ use Rattle.pl_threads.specs.Cores.{WorksOffAfter}
 use Rattle.pl_threads.specs.NodesViews.{OwnNodesView, NodesActs}
 use Rattle.pl_threads.specs.Running.{ExecutorView}
 
--- The oldest that waited for a target whose queue was not full was sent there, and nothing else was sent.
+-- The oldest that waited at a way whose queue was not full was sent by it, and nothing else was sent.
 pub record SendsOne (o o' : OutboxesView) : Type 0 where
-  pub target : ℕ
-  pub oldest : (entries : List (Entry AdmittedView)) → Holds o.waiting entries → oldest_untried o' entries ≡ Some target
+  pub way : ℕ
+  pub oldest : (entries : List (Entry AdmittedView)) → Holds o.waiting entries → oldest_untried o' entries ≡ Some way
   pub envelope : Envelope
   pub behind : List Envelope
-  pub first : waits_for o target ≡ envelope ∷ behind
-  pub sends : sends_for o' target ≡ option_map (λ (s : SenderView). after_offer s envelope) (sends_for o target)
-  pub others : (y : ℕ) → y ≢ target → sends_for o' y ≡ sends_for o y
+  pub first : waits_for o way ≡ envelope ∷ behind
+  pub sends : sends_for o' way ≡ option_map (λ (s : SenderView). after_offer s envelope) (sends_for o way)
+  pub others : (y : ℕ) → y ≢ way → sends_for o' y ≡ sends_for o y
 
 -- Nothing was sent, and nothing waited but for queues that were full.
 pub record SendsNone (o o' : OutboxesView) : Type 0 where
@@ -53,10 +53,10 @@ pub record OnlyServes {N : Type 0} (e e' : ExecutorView N) : Type 0 where
 
 -- ---- what it does, one after another
 
--- At most one was handed over: the first that waited for some target. Only what waits, and what was sent, may have changed.
+-- At most one was handed over: the first that waited at some way. Only what waits, and what was sent, may have changed.
 pub record Hands {N : Type 0} (e e' : ExecutorView N) : Type 0 where
   pub same : e' ≡ record e { outboxes = e'.outboxes }
-  pub sends : ((y : ℕ) → SameFor e.outboxes e'.outboxes y) ⊎ ((target : ℕ) × Sends e.outboxes target e'.outboxes)
+  pub sends : ((y : ℕ) → SameFor e.outboxes e'.outboxes y) ⊎ ((way : ℕ) × Sends e.outboxes way e'.outboxes)
 
 module _ {N : Type 0} (view_of : N → OwnNodesView) (acts : NodesActs N) where
   -- A node took what was taken from the queue, with nothing on the work list before, and that list was worked off.

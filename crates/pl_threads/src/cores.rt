@@ -67,16 +67,16 @@ impl<'a, W: Named, M: Mailbox<W> + Drop, N: OwnNodes<W> + Drop> Core<'a, W, M, N
         ensures front { result ≡ true → (front : Envelope) × FrontGoes N.view_of N.acts self.old.number front (at_work self.old) (at_work self.new) }
         ensures empty { result ≡ false → (self.old.work.items ≡ []) × (self.new.work.items ≡ []) × (self.new.nodes ≡ self.old.nodes) × (self.new.outboxes ≡ self.old.outboxes) }
     {
-        let Some(envelope) = self.work.next() else {
+        let Some(front) = self.work.next() else {
             return false;
         };
-        let target = self.nodes.target(envelope.lane);
+        let target = self.nodes.target(front.lane);
         if target == self.number {
-            self.nodes.take(envelope, &mut self.work);
+            self.nodes.take(front, &mut self.work);
             return true;
         }
-        let lane = envelope.lane;
-        match self.outboxes.add(target, envelope) {
+        let lane = front.lane;
+        match self.outboxes.add(target, front) {
             Ok(()) => {}
             Err(Refused::Closed) => self.nodes.refuse(lane, &mut self.work),
             Err(Refused::SeatSpent) => unreachable!(),
@@ -85,20 +85,20 @@ impl<'a, W: Named, M: Mailbox<W> + Drop, N: OwnNodes<W> + Drop> Core<'a, W, M, N
     }
 
     /// An item of a lane that another executor writes is taken.
-    pub fn take(&mut self, task: Envelope)
+    pub fn take(&mut self, envelope: Envelope)
         requires holds { CoreHolds N.view_of N.stands W.world self.old }
-        requires here { (N.view_of self.old.nodes).lanes.target task.lane ≡ self.old.number }
-        requires foreign { (N.view_of self.old.nodes).lanes.written task.lane ≡ false }
-        requires number { task.number ≡ (N.view_of self.old.nodes).lanes.taken task.lane }
-        requires good { IsGood W.world task }
+        requires here { (N.view_of self.old.nodes).lanes.target envelope.lane ≡ self.old.number }
+        requires foreign { (N.view_of self.old.nodes).lanes.written envelope.lane ≡ false }
+        requires number { envelope.number ≡ (N.view_of self.old.nodes).lanes.taken envelope.lane }
+        requires good { IsGood W.world envelope }
         ensures holds { CoreHolds N.view_of N.stands W.world self.new }
         ensures keeps { CoreKeeps N.view_of self.old self.new }
         ensures served { ServesNone (N.served self.old.nodes) (N.served self.new.nodes) }
-        ensures taken { (N.view_of self.new.nodes).lanes.taken ≡ taken_with (N.view_of self.old.nodes).lanes.taken task }
-        ensures takes { N.acts.takes self.old.nodes task self.old.work self.new.nodes self.new.work }
+        ensures taken { (N.view_of self.new.nodes).lanes.taken ≡ taken_with (N.view_of self.old.nodes).lanes.taken envelope }
+        ensures takes { N.acts.takes self.old.nodes envelope self.old.work self.new.nodes self.new.work }
         ensures outboxes { self.new.outboxes ≡ self.old.outboxes }
     {
-        self.nodes.take(task, &mut self.work);
+        self.nodes.take(envelope, &mut self.work);
     }
 
     /// Works the list off.

@@ -28,7 +28,7 @@ use pl_flow::HeadMove;
 use pl_outbox::Inbox;
 use pl_queue::Mailbox;
 use pl_words::OwnerSeat;
-use std::marker::Model;
+use std::marker::{Model, PhantomData};
 use std::sync::Wait;
 use std::thread;
 
@@ -240,9 +240,9 @@ impl<'a, W: Named, M: Mailbox<W> + Drop, N: OwnNodes<W> + Drop> Executor<'a, W, 
     pub fn hand<R: Wait, G: Gate>(&mut self, rt: &R, _gate: &G) -> Option<usize>
         requires entered { G.was_entered _gate.now self.old.number self.old.turns }
         ensures same { self.new ≡ record self.old { outboxes = self.new.outboxes } }
-        ensures handed { IfSome result (λ target. Sends self.old.outboxes target self.new.outboxes) }
+        ensures handed { IfSome result (λ way. Sends self.old.outboxes way self.new.outboxes) }
         ensures none { IfNone result ((y : ℕ) → SameFor self.old.outboxes self.new.outboxes y) }
-        // The target of the oldest, among those whose queue was not found full by this call.
+        // The way of the oldest, among those whose queue was not found full by this call.
         ensures oldest { (entries : List (Entry AdmittedView)) → Holds self.old.outboxes.waiting entries → result ≡ oldest_untried self.new.outboxes entries }
     {
         self.core.outboxes.hand(rt)
@@ -279,8 +279,8 @@ impl<'a, W: Named, M: Mailbox<W> + Drop, N: OwnNodes<W> + Drop> Executor<'a, W, 
         self.reads_wait = !self.serve_first(rt, false);
     }
 
-    /// One read step, where `reads` says so, and one write of the first channel, from the one that is asked next on, that has
-    /// any of these enabled. False where none has.
+    /// One read step, where `reads` says so, and one write of the first channel, from the one that is asked next on and round to
+    /// it, that has any of these enabled; then the one behind it is asked next. False where none has.
     fn serve_first<R: Wait>(&mut self, rt: &R, reads: bool) -> bool
         ensures serves { OnlyServes self.old self.new }
         ensures served { ServesBy reads (N.served self.old.nodes) (N.served self.new.nodes) }
@@ -290,21 +290,13 @@ impl<'a, W: Named, M: Mailbox<W> + Drop, N: OwnNodes<W> + Drop> Executor<'a, W, 
         let Some(first) = self.first() else {
             return false;
         };
-        let count = self.head_count();
-        self.serve_between(rt, first, count, reads) || self.serve_between(rt, 0, first, reads)
-    }
-
-    /// One read step, where `reads` says so, and one write of the first channel from one on, up to another, that has any of
-    /// these enabled; then the one behind it is asked next. False where none has.
-    fn serve_between<R: Wait>(&mut self, rt: &R, from: usize, to: usize, reads: bool) -> bool
-        requires there { to ≤ (N.view_of self.old.nodes).heads }
-        ensures serves { OnlyServes self.old self.new }
-        ensures served { ServesBy reads (N.served self.old.nodes) (N.served self.new.nodes) }
-        ensures moves { ServesOne N.view_of N.acts self.old self.new }
-        ensures same { result ≡ false → self.new ≡ self.old }
-        ensures idle { result ≡ false → (c : ℕ) → from ≤ c → c < to → (by : HeadMove) → is_asked reads by ≡ true → N.may_move self.old.nodes by c false }
-    {
-        for at in from..to {
+        let behind = self.head_count() - first;
+        for asked in 0..self.head_count() {
+            let at = if asked < behind {
+                first + asked
+            } else {
+                asked - behind
+            };
             if self.serve(rt, at, reads) {
                 self.next = at + 1;
                 return true;
@@ -478,7 +470,15 @@ impl<'a, W: Named, M: Mailbox<W> + Drop, N: OwnNodes<W> + Drop> Executor<'a, W, 
             ..
         } = core;
         let (waiting, refusal) = outboxes.into_rest();
-        Finished::new(number, nodes, owner, taker, waiting, refusal)
+        Finished {
+            number,
+            nodes,
+            owner,
+            taker,
+            waiting,
+            refusal,
+            of: PhantomData,
+        }
     }
 
     /// Whether more may be read: nothing waits for others, and where heads are here no executor is congested.

@@ -15,13 +15,13 @@ use std::marker::{Model, PhantomData};
 /// target closed. There is one where a node has failed by a refusal.
 #[derive(Drop)]
 pub struct Finished<W: Named, M: Mailbox<W> + Drop, N: OwnNodes<W> + Drop> {
-    number: usize,
-    nodes: N,
-    owner: OwnerSeat,
-    taker: M::Taker,
-    waiting: Waiting<Admitted>,
-    refusal: Option<SendSeat>,
-    of: PhantomData<W>,
+    pub(crate) number: usize,
+    pub(crate) nodes: N,
+    pub(crate) owner: OwnerSeat,
+    pub(crate) taker: M::Taker,
+    pub(crate) waiting: Waiting<Admitted>,
+    pub(crate) refusal: Option<SendSeat>,
+    pub(crate) of: PhantomData<W>,
 }
 
 impl<W: Named, M: Mailbox<W> + Drop, N: OwnNodes<W> + Drop> Model for Finished<W, M, N> {
@@ -35,31 +35,6 @@ impl<W: Named, M: Mailbox<W> + Drop, N: OwnNodes<W> + Drop> Model for Finished<W
 }
 
 impl<W: Named, M: Mailbox<W> + Drop, N: OwnNodes<W> + Drop> Finished<W, M, N> {
-    /// What an executor leaves.
-    pub(crate) fn new(
-        number: usize,
-        nodes: N,
-        owner: OwnerSeat,
-        taker: M::Taker,
-        waiting: Waiting<Admitted>,
-        refusal: Option<SendSeat>,
-    ) -> Self
-        requires stands { N.stands nodes }
-        requires over { N.are_over nodes }
-        requires finished { IsFinished N.view_of (record { number = number; nodes = nodes; owner = owner; takes = M.ends.takes_of taker; waiting = waiting; refusal = refusal }) }
-        ensures { result ≡ record { number = number; nodes = nodes; owner = owner; takes = M.ends.takes_of taker; waiting = waiting; refusal = refusal } }
-    {
-        Finished {
-            number,
-            nodes,
-            owner,
-            taker,
-            waiting,
-            refusal,
-            of: PhantomData,
-        }
-    }
-
     /// The nodes: contexts, tails and heads, each of which has ended or failed.
     pub fn into_nodes(self) -> N
         ensures nodes { result ≡ self.nodes }

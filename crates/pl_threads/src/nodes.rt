@@ -19,7 +19,7 @@ pub trait OwnNodes<W: Named>: Sized {
     ghost view_of: { Self → OwnNodesView };
 
     /// What they do: what the node that an item enters makes of it; what becomes of them where an item of a lane is refused;
-    /// what the head of the channel at a place does in a move. A context whose data lane was refused has given up: it has
+    /// what the head of the channel at a position does in a move. A context whose data lane was refused has given up: it has
     /// ended or failed. A head, and a lane of flags, go on.
     ghost acts: { NodesActs Self };
 

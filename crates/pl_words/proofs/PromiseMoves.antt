@@ -14,7 +14,7 @@ use Rattle.pl_event.specs.declared.outcomes.Outcome.{Outcome}
 use Rattle.pl_event.specs.declared.outcomes.Outcome.TheVariants.{Success, Closed, Fault, Unsupported}
 use Rattle.pl_words.specs.declared.promise_steps.PromiseNotes.{PromiseNotes}
 use Rattle.pl_words.specs.declared.promise_steps.RowSize.{RowSize}
-use Rattle.pl_words.specs.PromiseRule.{code, code_of, outcome_in, at, Stands, all_rights, IsSeat, SomeSettled, IsRow, Rule, Sits, row_notes, first_notes, settler_dealt, settler_of, reader_of, saw, attempted, Peeked, Settled}
+use Rattle.pl_words.specs.PromiseRule.{code, code_of, outcome_in, at, Stands, all_rights, IsSeat, SomeSettled, IsRow, Rule, Sits, row_notes, first_notes, without_rights, with_rights, saw, attempted, Looked, Settled}
 
 -- Words and outcomes
 
@@ -149,7 +149,7 @@ finds : {size : RowSize} {words : List ℕ} {notes : List PromiseNotes} (r : IsR
 finds r i = ap outcome_in (ap (λ (l : List ℕ). get_or l i 0) r.words_are ∙ word_at r.outcomes i) ∙ outcome_in-word (at r.outcomes i)
 
 -- a reader looks
-pub peeks : (size : RowSize) (slots id i : ℕ) (me : Sits) → i < size.limit → Allows (Rule size) slots id me i (λ n. n) (Peeked (step slots i 0 0 none) me)
+pub peeks : (size : RowSize) (slots id i : ℕ) (me : Sits) → i < size.limit → Allows (Rule size) slots id me i (λ n. n) (Looked (step slots i 0 0 none) me)
 peeks size slots id i me within s r _ here _ =
     let v : PromiseNotes = me.0 in
     let n : ℕ = get_or s.words i 0 in
@@ -253,15 +253,14 @@ settles size slots id i o me within right s r _ here _ =
 -- The first seat
 
 -- it deals a seat with some of its rights, before it has settled anything
-deals : (size : RowSize) (id rights given : ℕ) (v : PromiseNotes) → v ≡ row_notes size.limit size.settlers rights → given ≤ rights
-    → Splits (Rule size) id v (record v { rights = rights - given }) (record v { rights = given })
+pub deals : (size : RowSize) (id rights given : ℕ) (v : PromiseNotes) → v ≡ row_notes size.limit size.settlers rights → given ≤ rights → Splits (Rule size) id v (without_rights given v) (with_rights given v)
 deals size id rights given v is enough s r here =
     let f = r.each id v here in
     let mine : v.rights ≡ rights = ap (λ (u : PromiseNotes). u.rights) is in
     let nothing : (k : ℕ) → at v.settled k ≡ None = λ k. ap (λ (u : PromiseNotes). at u.settled k) is ∙ none_at size.limit k in
-    let left : PromiseNotes = record v { rights = rights - given } in
-    let right : PromiseNotes = record v { rights = given } in
-    let fits : (n : ℕ) → IsSeat size.settlers r.outcomes (record v { rights = n }) = λ n. record { settlers_are = f.settlers_are; seen = f.seen; settled = f.settled; rightless = λ _ k. nothing k } in
+    let left : PromiseNotes = without_rights given v in
+    let right : PromiseNotes = with_rights given v in
+    let fits : (n : ℕ) → IsSeat size.settlers r.outcomes (with_rights n v) = λ n. record { settlers_are = f.settlers_are; seen = f.seen; settled = f.settled; rightless = λ _ k. nothing k } in
     let rights' = rights_set s.views id v left here in
     let rights'' = rights_snoc (set s.views id left) right in
     let all = r.rights in
@@ -271,20 +270,10 @@ deals size id rights given v is enough s r here =
       words_are = r.words_are;
       rights = omega arith;
       each = λ j u e. ⊎_elim
-          (λ there. ⊎_elim (λ t. subst (λ (z : PromiseNotes). IsSeat size.settlers r.outcomes z) t.1 (fits (rights - given))) (λ t. r.each j u t.1) (at_set s.views id j left u there))
+          (λ there. ⊎_elim (λ t. subst (λ (z : PromiseNotes). IsSeat size.settlers r.outcomes z) t.1 (fits (v.rights - given))) (λ t. r.each j u t.1) (at_set s.views id j left u there))
           (λ new. subst (λ (z : PromiseNotes). IsSeat size.settlers r.outcomes z) new (fits given)) (at_snoc (set s.views id left) right u j e);
       by_seats = λ k o e. (let q = still_settled s.views id v left k o here (λ h. h) (r.by_seats k o e) in (q.0, q.1, at_longer (set s.views id left) (right ∷ []) q.0 q.1 q.2, q.3));
     }
-
-pub deals_settler : (size : RowSize) (id rights : ℕ) (v : PromiseNotes) → v ≡ row_notes size.limit size.settlers rights → 0 < rights → Splits (Rule size) id v (settler_dealt v) (settler_of v)
-deals_settler size id rights v is some_left =
-    let mine : rights ≡ v.rights = sym (ap (λ (u : PromiseNotes). u.rights) is) in
-    subst (λ (z : ℕ). Splits (Rule size) id v (record v { rights = z - 1 }) (settler_of v)) mine (deals size id rights 1 v is (omega arith))
-
-pub deals_reader : (size : RowSize) (id : ℕ) (v : PromiseNotes) → v ≡ row_notes size.limit size.settlers 0 → Splits (Rule size) id v v (reader_of v)
-deals_reader size id v is =
-    let same : record v { rights = 0 } ≡ v = λ i. record v { rights = sym (ap (λ (u : PromiseNotes). u.rights) is) i } in
-    subst (λ (z : PromiseNotes). Splits (Rule size) id v z (reader_of v)) same (deals size id 0 0 v is (omega arith))
 
 -- A new row
 

@@ -78,15 +78,12 @@ row_notes limit settlers rights = record { seen = replicate limit None; settled 
 abbrev pub first_notes : RowSize → PromiseNotes
 first_notes size = row_notes size.limit size.settlers size.settlers
 
--- a seat without one of its rights; a settler and a reader that know what it knows
-abbrev pub settler_dealt : PromiseNotes → PromiseNotes
-settler_dealt v = record v { rights = v.rights - 1 }
+-- a seat without so many of its rights, and one with so many that knows what it knows
+abbrev pub without_rights : ℕ → PromiseNotes → PromiseNotes
+without_rights given v = record v { rights = v.rights - given }
 
-abbrev pub settler_of : PromiseNotes → PromiseNotes
-settler_of v = record v { rights = 1 }
-
-abbrev pub reader_of : PromiseNotes → PromiseNotes
-reader_of v = record v { rights = 0 }
+abbrev pub with_rights : ℕ → PromiseNotes → PromiseNotes
+with_rights given v = record v { rights = given }
 
 -- the seat has seen this of promise n
 abbrev pub saw : PromiseNotes → ℕ → Option Outcome → PromiseNotes
@@ -104,8 +101,8 @@ attempted v n asked (Some found) = saw v n (Some found)
 -- What each step tells: of the step, the seat before, the number found in the word, and the seat after. What the seat has
 -- seen of the promise is found again; who is the only settler finds no outcome but its own.
 
-abbrev pub Peeked : Step (Unit {0}) → Sits → ℕ → Sits → Type 0
-Peeked st m n m' = (m' ≡ (saw m.0 st.word (outcome_in n), m.1)) × (at m'.0.seen st.word ≡ outcome_in n)
+abbrev pub Looked : Step (Unit {0}) → Sits → ℕ → Sits → Type 0
+Looked st m n m' = (m' ≡ (saw m.0 st.word (outcome_in n), m.1)) × (at m'.0.seen st.word ≡ outcome_in n)
     × ((o : Outcome) → at m.0.seen st.word ≡ Some o → outcome_in n ≡ Some o)
 
 abbrev pub Settled : Step (Unit {0}) → Sits → ℕ → Sits → Type 0

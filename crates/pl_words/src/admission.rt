@@ -6,8 +6,9 @@ ghost use Rattle.pl_words.specs.Phases.{rank, begun};
 ghost use Rattle.pl_words.specs.Admissions.{Admits, Refuses, Closes, StaysOpen, admitted_of, less_one, new_send_seat, new_owner_seat};
 
 use crate::admission_steps::{
-    AdmissionNotes, AdmissionRule, Begin, Deal, Finish, Gather, GiveUp, Look, TakeBack, Try,
+    AdmissionNotes, AdmissionRule, Begin, Deal, Finish, Gather, GiveUp, TakeBack, Try,
 };
+use crate::look::Look;
 use crate::status::{Status, phase_in};
 use atomic_table::{Seat, Table};
 use std::alloc::{AllocError, Global};

@@ -1,6 +1,6 @@
 //! What the seats of an admission know, the rule that ties it to the word, and the steps on the word.
 
-ghost use Rattle.pl_words.specs.AdmissionRule.{Rule, owner_notes, sender_notes, spent_notes, without_seat, gathered, Tried, TakenBack, Looked, GivenUp, Begun, Finished};
+ghost use Rattle.pl_words.specs.AdmissionRule.{Rule, owner_notes, sender_notes, spent_notes, without_seat, gathered, Tried, TakenBack, GivenUp, Begun, Finished};
 ghost use Rattle.pl_words.specs.declared.status.Status.TheVariants.{Accepting};
 
 use crate::status::Status;
@@ -53,13 +53,6 @@ pub(crate) struct TakeBack;
 
 impl Play<(), AdmissionNotes> for TakeBack {
     ghost then = { TakenBack };
-}
-
-/// A sender looks at the phase.
-pub(crate) struct Look;
-
-impl Play<(), AdmissionNotes> for Look {
-    ghost then = { Looked };
 }
 
 /// A sender gives an admission up.

@@ -5,6 +5,7 @@
 mod admission;
 mod admission_steps;
 mod laws;
+mod look;
 mod promise_steps;
 pub mod promises;
 mod status;

@@ -1,6 +1,6 @@
 //! What the seats of a row of promises know, the rule that ties it to the words, and the steps on a word.
 
-ghost use Rattle.pl_words.specs.PromiseRule.{Rule, first_notes, settler_dealt, settler_of, reader_of, Settled, Peeked};
+ghost use Rattle.pl_words.specs.PromiseRule.{Rule, first_notes, without_rights, with_rights, Settled};
 
 use atomic_table::{Play, Split, TableRule};
 use pl_event::Outcome;
@@ -45,27 +45,11 @@ impl Play<(), PromiseNotes> for Settle {
     ghost then = { Settled };
 }
 
-/// A reader looks at a promise.
-pub(crate) struct Peek;
+/// The first seat deals a seat with this many of its rights: 1 for a settler's, none for a reader's.
+pub(crate) struct Deal<const RIGHTS: u16>;
 
-impl Play<(), PromiseNotes> for Peek {
-    ghost then = { Peeked };
-}
+impl<const RIGHTS: u16> Split<PromiseNotes> for Deal<RIGHTS> {
+    ghost left = { without_rights RIGHTS };
 
-/// The first seat deals a settler's.
-pub(crate) struct DealSettler;
-
-impl Split<PromiseNotes> for DealSettler {
-    ghost left = { settler_dealt };
-
-    ghost right = { settler_of };
-}
-
-/// The first seat deals a reader's.
-pub(crate) struct DealReader;
-
-impl Split<PromiseNotes> for DealReader {
-    ghost left = { λ v. v };
-
-    ghost right = { reader_of };
+    ghost right = { with_rights RIGHTS };
 }

@@ -1,12 +1,11 @@
 //! How each write ended: a row of words, each of which is settled once and read by any thread, by single steps.
 
-ghost use Rattle.std.specs.Prelude.{◌≡◌, ℕ, ◌+◌, ◌-◌, ◌<◌, ◌≤◌, [], All, IfOk, IfErr, OnErr, length, replicate, Some, None};
-ghost use Rattle.pl_words.specs.PromiseRule.{at, code, outcome_in, first_notes, row_notes};
+ghost use Rattle.std.specs.Prelude.{◌≡◌, ◌<◌, ◌≤◌, All, IfOk, IfErr, length, Some, None};
+ghost use Rattle.pl_words.specs.PromiseRule.{at, code, outcome_in};
 ghost use Rattle.pl_words.specs.PromiseViews.{Settles, Meets, Peeks, new_settler, new_reader};
 
-use crate::promise_steps::{
-    DealReader, DealSettler, Peek, PromiseNotes, PromiseRule, RowSize, Settle,
-};
+use crate::look::Look;
+use crate::promise_steps::{Deal, PromiseNotes, PromiseRule, RowSize, Settle};
 use atomic_table::{Seat, Table};
 use pl_event::Outcome;
 use std::alloc::{AllocError, Global};
@@ -15,14 +14,11 @@ use std::marker::Model;
 /// The most promises of a row.
 pub const MAX_PROMISES: u16 = 4_096;
 
-/// The words of a row of promises.
-type Words = Table<(), PromiseNotes, RowSize, PromiseRule, Global>;
-
 /// How each write of a channel ended (Netty's `ChannelPromise`), by its number from 0. A promise is unset until it is
 /// settled, which happens once.
 #[derive(Drop)]
 pub struct Promises {
-    words: Words,
+    words: Table<(), PromiseNotes, RowSize, PromiseRule, Global>,
     /// How many promises there are. Those of higher numbers are void: they are never settled.
     limit: u16,
 }
@@ -69,47 +65,6 @@ impl Model for ReadSeat {
     ghost view = { λ s. record { name = s.seat.table_id; seen = s.seat.me.0.seen; steps = s.seat.me.0.steps } };
 }
 
-/// The seats of all settlers, which the first seat deals.
-fn settlers_of(
-    alloc: Global,
-    words: &Words,
-    first: &mut Seat<(), PromiseNotes>,
-    settlers: u16,
-) -> Result<Vec<SettleSeat>, AllocError>
-    requires row { (first.old.table_id ≡ words.now.shared.table_id) × (0 < words.now.shared.table_id.words) }
-    requires all { settlers ≡ words.now.shared.key.settlers }
-    requires fresh { first.old.me ≡ (first_notes words.now.shared.key, []) }
-    ensures first { first.new.table_id ≡ first.old.table_id }
-    ensures dealt { IfOk result (λ _. first.new.me ≡ (row_notes words.now.shared.key.limit words.now.shared.key.settlers 0, [])) }
-    ensures seats { IfOk result (λ seats. (length seats.items ≡ settlers) × All (λ s. s ≡ new_settler first.old.table_id words.now.shared.key.limit words.now.shared.key.settlers) seats.items) }
-{
-    let mut seats = Vec::with_capacity(alloc, usize::from(settlers))?;
-    for number in 0..settlers {
-        let seat = words.shared.split_seat::<DealSettler>(first);
-        seats.push_reserved(SettleSeat { seat });
-    }
-    Ok(seats)
-}
-
-/// The seats of all readers, which the first seat deals.
-fn readers_of(
-    alloc: Global,
-    words: &Words,
-    first: &mut Seat<(), PromiseNotes>,
-    readers: u16,
-) -> Result<Vec<ReadSeat>, AllocError>
-    requires row { (first.old.table_id ≡ words.now.shared.table_id) × (0 < words.now.shared.table_id.words) }
-    requires dealt { first.old.me ≡ (row_notes words.now.shared.key.limit words.now.shared.key.settlers 0, []) }
-    ensures seats { IfOk result (λ seats. (length seats.items ≡ readers) × All (λ s. s ≡ new_reader first.old.table_id words.now.shared.key.limit) seats.items) }
-{
-    let mut seats = Vec::with_capacity(alloc, usize::from(readers))?;
-    for number in 0..readers {
-        let seat = words.shared.split_seat::<DealReader>(first);
-        seats.push_reserved(ReadSeat { seat });
-    }
-    Ok(seats)
-}
-
 /// The word of a promise that is settled so.
 fn word_of(outcome: Outcome) -> u64
     ensures { result ≡ code outcome }
@@ -152,8 +107,16 @@ impl Promises {
         let unset = vec![in alloc; 0u64; usize::from(limit)]?;
         let size = RowSize { limit, settlers };
         let (words, mut first) = Table::of_words(alloc, unset.as_slice(), &size)?;
-        let settle_seats = settlers_of(alloc, &words, &mut first, settlers)?;
-        let read_seats = readers_of(alloc, &words, &mut first, readers)?;
+        let mut settle_seats = Vec::with_capacity(alloc, usize::from(settlers))?;
+        let mut read_seats = Vec::with_capacity(alloc, usize::from(readers))?;
+        for number in 0..settlers {
+            let seat = words.shared.split_seat::<Deal<1>>(&mut first);
+            settle_seats.push_reserved(SettleSeat { seat });
+        }
+        for number in 0..readers {
+            let seat = words.shared.split_seat::<Deal<0>>(&mut first);
+            read_seats.push_reserved(ReadSeat { seat });
+        }
         Ok((Promises { words, limit }, settle_seats, read_seats))
     }
 
@@ -193,6 +156,6 @@ impl Promises {
         if u64::from(self.limit) <= n {
             return None;
         }
-        outcome_in(self.words.shared.load::<Peek>(&mut seat.seat, n as usize))
+        outcome_in(self.words.shared.load::<Look>(&mut seat.seat, n as usize))
     }
 }

@@ -3,7 +3,8 @@
 ghost use Rattle.std.specs.Prelude.{◌≡◌, ℕ, ◌+◌, ◌*◌, ◌<◌, ◌≤◌, not, All, IfOk, length};
 ghost use Rattle.pl_words.specs.Watermarks.{IsMarked, Looks, is_news, new_head_seat, new_reader};
 
-use crate::watermark_steps::{Deal, Look, Set, WatermarkNotes, WatermarkRule};
+use crate::look::Look;
+use crate::watermark_steps::{Deal, Set, WatermarkNotes, WatermarkRule};
 use atomic_table::{Seat, Table};
 use std::alloc::{AllocError, Global};
 use std::marker::Model;

@@ -1,7 +1,7 @@
 //! What the seats of a watermark know, the rule that ties it to the word, and the steps on the word.
 
 ghost use Rattle.std.specs.Prelude.{false};
-ghost use Rattle.pl_words.specs.WatermarkRule.{Rule, head_notes, reader_notes, MarkSet, Looked};
+ghost use Rattle.pl_words.specs.WatermarkRule.{Rule, head_notes, reader_notes, MarkSet};
 
 use atomic_table::{Play, Split, TableRule};
 
@@ -35,13 +35,6 @@ pub(crate) struct Set;
 
 impl Play<(), WatermarkNotes> for Set {
     ghost then = { MarkSet };
-}
-
-/// A reader looks at the mark.
-pub(crate) struct Look;
-
-impl Play<(), WatermarkNotes> for Look {
-    ghost then = { Looked };
 }
 
 /// The head deals a reader's seat.

@@ -2,8 +2,12 @@
 use Rattle.std.proofs.Common.{◌≡◌, List, [], ◌∷◌, ◌++◌, map, sym, ap, ◌∙◌, append_assoc}
 use Rattle.std.proofs.lemmas.List.{map_push}
 use Rattle.pl_event.specs.declared.events.Event.{Event}
-use Rattle.pl_event.specs.Meaning.{Meaning, made_after, made-push}
+use Rattle.pl_event.specs.Meaning.{Meaning, made_after, made-push, up_of, down_of}
 use Rattle.pl_event.specs.Lanes.{through_by, through_by-push}
+use Rattle.pl_world.specs.Chains.{made_toward, part_toward}
+use Rattle.pl_world.specs.declared.chains.Made.{Made}
+use Rattle.pl_world.specs.declared.chains.Toward.{Toward}
+use Rattle.pl_world.specs.declared.chains.Toward.TheVariants.{Head, Tail}
 
 pub made_more : (f : List Event → Event → List Event) (xs : List Event) (e : Event) (made made' : List Event)
     → made ≡ made_after f [] xs → made' ≡ made ++ f xs e → made' ≡ made_after f [] (xs ++ e ∷ [])
@@ -24,3 +28,8 @@ pushed_more {B = B} f before made made' xs x so_far step =
     ∙ ap (λ (t : List B). t ++ f x ∷ []) so_far
     ∙ append_assoc before (map f xs) (f x ∷ [])
     ∙ ap (λ (t : List B). before ++ t) (sym (map_push f xs x))
+
+pub toward_is : (t : Toward) (m : Meaning) (xs : List Event) (made : Made)
+    → made.up.items ≡ up_of m xs → made.down.items ≡ down_of m xs → (part_toward t made).items ≡ made_toward t m xs
+toward_is Head m xs made up down = down
+toward_is Tail m xs made up down = up

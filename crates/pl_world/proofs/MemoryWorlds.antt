@@ -1,12 +1,11 @@
 -- A world over memory, made of slices: its channels have what was handed in.
-use Rattle.std.proofs.Common.{◌≡◌, ℕ, List, [], ◌∷◌, length, map, true, Result, Ok, Err, ap, sym, ◌∙◌, refl, subst, arith}
-use Rattle.std.specs.Prelude.{All, IfOk, OnOk}
+use Rattle.std.proofs.Common.{◌≡◌, ℕ, List, [], ◌∷◌, length, map, Result, Ok, Err, ap, sym, ◌∙◌, refl, subst, arith}
+use Rattle.std.specs.Prelude.{All, IfOk}
 use Rattle.pl_build.specs.Pipelines.{PlacedView}
 use Rattle.pl_head.specs.declared.inputs.ReadPlan.{ReadPlan}
 use Rattle.pl_world.specs.declared.session.Recorded.{Recorded}
 use Rattle.pl_world.specs.declared.worlds.WorldRefusal.{WorldRefusal}
-use Rattle.pl_world.specs.Limits.{is_within}
-use Rattle.pl_world.specs.Worlds.{WorldView, recorded}
+use Rattle.pl_world.specs.Worlds.{WorldView, AnswersWorld, recorded}
 use Rattle.pl_world.proofs.WorldLimits.{all_any, all_recorded, within_parts}
 
 module _ {S T : Type 0} where
@@ -35,22 +34,22 @@ module _ {S T : Type 0} where
 
 -- what is answered of a world of these
 module _ {S T : Type 0} (pipelines : List (PlacedView S)) (inputs : List ReadPlan) (transports : List T) (executors : ℕ) where
-  pub has_pipelines : (made : Result (WorldView S T) WorldRefusal) → IfOk made (λ w. w.channels ≡ recorded pipelines inputs transports)
-      → OnOk made (is_within pipelines inputs transports executors ≡ true) → IfOk made (λ w. map (λ (c : Recorded S T). c.pipeline) w.channels ≡ pipelines)
-  has_pipelines (Ok w) channels within =
-      let limits = within_parts pipelines inputs transports executors within in
-      ap (map (λ (c : Recorded S T). c.pipeline)) channels ∙ recorded-pipelines pipelines inputs transports limits.inputs_for_each limits.transports_for_each
-  has_pipelines (Err e) channels within = tt
+  -- of each channel it has what was given for that
+  has_members : {X : Type 0} (of : Recorded S T → X) (all : List X) → (length pipelines ≡ length inputs → length pipelines ≡ length transports → map of (recorded pipelines inputs transports) ≡ all)
+      → (made : Result (WorldView S T) WorldRefusal) → AnswersWorld pipelines inputs transports executors made → IfOk made (λ w. map of w.channels ≡ all)
+  has_members of all each (Ok w) answers =
+      let limits = within_parts pipelines inputs transports executors answers.allowed in
+      ap (map of) answers.channels ∙ each limits.inputs_for_each limits.transports_for_each
+  has_members of all each (Err e) answers = tt
 
-  pub has_inputs : (made : Result (WorldView S T) WorldRefusal) → IfOk made (λ w. w.channels ≡ recorded pipelines inputs transports)
-      → OnOk made (is_within pipelines inputs transports executors ≡ true) → IfOk made (λ w. map (λ (c : Recorded S T). c.input) w.channels ≡ inputs)
-  has_inputs (Ok w) channels within =
-      let limits = within_parts pipelines inputs transports executors within in
-      ap (map (λ (c : Recorded S T). c.input)) channels ∙ recorded-inputs pipelines inputs transports limits.inputs_for_each limits.transports_for_each
-  has_inputs (Err e) channels within = tt
+  pub has_pipelines : (made : Result (WorldView S T) WorldRefusal) → AnswersWorld pipelines inputs transports executors made → IfOk made (λ w. map (λ (c : Recorded S T). c.pipeline) w.channels ≡ pipelines)
+  has_pipelines = has_members (λ c. c.pipeline) pipelines (recorded-pipelines pipelines inputs transports)
 
-  pub has_transports : (Holds : T → Type 0) → All Holds transports → (made : Result (WorldView S T) WorldRefusal) → IfOk made (λ w. w.channels ≡ recorded pipelines inputs transports)
+  pub has_inputs : (made : Result (WorldView S T) WorldRefusal) → AnswersWorld pipelines inputs transports executors made → IfOk made (λ w. map (λ (c : Recorded S T). c.input) w.channels ≡ inputs)
+  has_inputs = has_members (λ c. c.input) inputs (recorded-inputs pipelines inputs transports)
+
+  pub has_transports : (Holds : T → Type 0) → All Holds transports → (made : Result (WorldView S T) WorldRefusal) → AnswersWorld pipelines inputs transports executors made
       → IfOk made (λ w. All (λ (c : Recorded S T). Holds c.transport) w.channels)
-  has_transports Holds all (Ok w) channels =
-      subst (All (λ (c : Recorded S T). Holds c.transport)) (sym channels) (recorded-transports Holds pipelines inputs transports all)
-  has_transports Holds all (Err e) channels = tt
+  has_transports Holds all (Ok w) answers =
+      subst (All (λ (c : Recorded S T). Holds c.transport)) (sym answers.channels) (recorded-transports Holds pipelines inputs transports all)
+  has_transports Holds all (Err e) answers = tt

@@ -1,3 +1,4 @@
+pub mod Chains
 pub mod Limits
 pub mod Movers
 pub mod PlanRules

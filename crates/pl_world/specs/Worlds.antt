@@ -1,5 +1,5 @@
 -- What contracts see of a world, and what is true of each.
-use Rattle.std.specs.Prelude.{◌≡◌, ℕ, ◌<◌, ◌≤◌, List, [], ◌∷◌, length, map, All, true}
+use Rattle.std.specs.Prelude.{◌≡◌, ℕ, ◌<◌, ◌≤◌, List, [], ◌∷◌, length, map, All, true, if◌then◌else◌, Result, IfOk, IfErr, OnOk}
 use Rattle.std.specs.Borrow.{Bor}
 use Rattle.pl_event.specs.declared.events.Event.{Event}
 use Rattle.pl_event.specs.Meaning.{Meaning}
@@ -9,6 +9,8 @@ use Rattle.pl_head.specs.declared.inputs.ReadPlan.{ReadPlan}
 use Rattle.pl_head.specs.ReadSteps.{chunk_plan}
 use Rattle.pl_head.specs.Transports.{TransportState, new_state}
 use Rattle.pl_world.specs.declared.session.Recorded.{Recorded}
+use Rattle.pl_world.specs.declared.worlds.WorldRefusal.{WorldRefusal}
+use Rattle.pl_world.specs.declared.worlds.WorldRefusal.TheVariants as refusal
 use Rattle.pl_build.specs.declared.limits.TheConstants.{MAX_EXECUTORS}
 use Rattle.pl_world.specs.declared.limits.TheConstants.{MAX_CHANNELS}
 use Rattle.pl_world.specs.Plans.{channel_planned, planned}
@@ -51,6 +53,16 @@ abbrev pub HaveSmallLanes : {S T : Type 0} → (S → Meaning) → (S → List E
 HaveSmallLanes meaning stands_after state pipelines inputs transports executors =
     is_within pipelines inputs transports executors ≡ true → All (IsPath meaning stands_after) pipelines
     → All (λ c. IsSmallChannel (channel_planned meaning state c)) (recorded pipelines inputs transports)
+
+-- What is answered where a world is to be made of these, on so many executors (ChannelPipeline).
+pub record AnswersWorld {S T : Type 0} (pipelines : List (PlacedView S)) (inputs : List ReadPlan) (transports : List T) (count : ℕ) (made : Result (WorldView S T) WorldRefusal) : Type 0 where
+  pub executors : IfOk made (λ world. world.executors ≡ count)
+  -- each channel has what was given for it, in order
+  pub channels : IfOk made (λ world. world.channels ≡ recorded pipelines inputs transports)
+  -- it is made only within the limits
+  pub allowed : OnOk made (is_within pipelines inputs transports count ≡ true)
+  -- it is refused as `Limit` exactly past them, and else only as `Memory`
+  pub refused : IfErr made (λ e. e ≡ (if is_within pipelines inputs transports count then refusal.Memory else refusal.Limit))
 
 -- What holds of every world (ChannelPipeline): it is within its limits, and its transports were not called. It has at
 -- most MAX_CHANNELS channels on at most MAX_EXECUTORS executors, with inputs within their limits. Their plan keeps to

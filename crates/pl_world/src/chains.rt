@@ -2,16 +2,37 @@
 
 ghost use Rattle.std.specs.Prelude.{◌≡◌, [], map, All, IfOk};
 ghost use Rattle.pl_event.specs.Meaning.{up_of, down_of};
-ghost use Rattle.pl_event.specs.Lanes.{through, out_through};
+ghost use Rattle.pl_event.specs.Lanes.{through_by};
+ghost use Rattle.pl_world.specs.Chains.{made_toward, part_toward};
 
 use pl_event::{Event, Stage, StageFault};
 use std::alloc::Global;
+
+/// An end of a pipeline, toward which events go: downwards its head, upwards its tail.
+#[derive(Clone, Copy, Debug, PartialEq, Eq)]
+pub(crate) enum Toward {
+    Head,
+    Tail,
+}
 
 /// What a stage makes of a list of events, upwards and downwards.
 #[derive(Debug, Drop)]
 pub(crate) struct Made {
     pub(crate) up: Vec<Event>,
     pub(crate) down: Vec<Event>,
+}
+
+impl Made {
+    /// What was made toward this end.
+    fn toward(self, end: Toward) -> Vec<Event>
+        ensures { result ≡ part_toward end self }
+    {
+        let Made { up, down } = self;
+        match end {
+            Toward::Head => down,
+            Toward::Tail => up,
+        }
+    }
 }
 
 /// One stage takes the whole list.
@@ -39,34 +60,19 @@ pub(crate) fn pass<S: Stage>(
     Ok(Made { up, down })
 }
 
-/// Each stage of a chain takes the whole list that the one before it makes upwards. The last one's is the answer.
-pub(crate) fn feed_up<S: Stage>(
+/// Each stage of a chain takes the whole list that the one before it makes toward an end. The last one's is the answer.
+pub(crate) fn feed<S: Stage>(
     alloc: Global,
+    toward: Toward,
     stages: Vec<S>,
     events: Vec<Event>,
 ) -> Result<Vec<Event>, StageFault>
     requires new { All (λ stage. S.stands_after stage []) stages.items }
-    ensures { IfOk result (λ made. made.items ≡ through (map S.meaning stages.items) events.items) }
+    ensures { IfOk result (λ made. made.items ≡ through_by (made_toward toward) (map S.meaning stages.items) events.items) }
 {
     let mut events = events;
     for stage in stages {
-        events = pass(alloc, stage, events)?.up;
-    }
-    Ok(events)
-}
-
-/// Each stage of a chain takes the whole list that the one before it makes downwards. The last one's is the answer.
-pub(crate) fn feed_down<S: Stage>(
-    alloc: Global,
-    stages: Vec<S>,
-    events: Vec<Event>,
-) -> Result<Vec<Event>, StageFault>
-    requires new { All (λ stage. S.stands_after stage []) stages.items }
-    ensures { IfOk result (λ made. made.items ≡ out_through (map S.meaning stages.items) events.items) }
-{
-    let mut events = events;
-    for stage in stages {
-        events = pass(alloc, stage, events)?.down;
+        events = pass(alloc, stage, events)?.toward(toward);
     }
     Ok(events)
 }

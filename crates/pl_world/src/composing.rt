@@ -6,7 +6,7 @@ ghost use Rattle.pl_world.specs.Plans.{channel_planned};
 ghost use Rattle.pl_world.specs.Sessions.{plan_of};
 ghost use Rattle.pl_world.specs.Reports.{whole_report};
 
-use crate::chains::{feed_down, feed_up, pass};
+use crate::chains::{Toward, feed, pass};
 use crate::faults::ReplayFault;
 use crate::recorded_events::recorded_events;
 use crate::report::{ChannelReport, Report, Stands};
@@ -61,7 +61,8 @@ fn whole_reports<S: Stage, T: Transport>(
     Ok(reports)
 }
 
-/// The report of a channel: its handlers take its whole input as one list, hop by hop, and its head what comes out.
+/// The report of a channel: its handlers take its whole input as one list, hop by hop, and what comes out downwards is
+/// settled.
 fn whole<S: Stage, T: Transport>(
     alloc: Global,
     recorded: Recorded<S, T>,
@@ -82,10 +83,10 @@ fn whole<S: Stage, T: Transport>(
         after,
     } = split_chain(inbound, hop)?;
     let events = recorded_events(alloc, input.bursts)?;
-    let at_turn = feed_up(alloc, before, events)?;
+    let at_turn = feed(alloc, Toward::Tail, before, events)?;
     let made = pass(alloc, turn, at_turn)?;
-    let at_tail = feed_up(alloc, after, made.up)?;
-    let at_head = feed_down(alloc, outbound, made.down)?;
+    let at_tail = feed(alloc, Toward::Tail, after, made.up)?;
+    let at_head = feed(alloc, Toward::Head, outbound, made.down)?;
     let (bytes, writes) = settle_writes(alloc, at_head)?;
     Ok(ChannelReport {
         stands: Stands::Drained,

@@ -1,9 +1,9 @@
 //! The world of a replay or a run: channels, each with its pipeline, its input and its transport, on executors.
 
-ghost use Rattle.std.specs.Prelude.{◌≡◌, ℕ, ◌+◌, ◌≤◌, true, IfOk, IfErr, OnOk, IsTrue, All, length, if◌then◌else◌};
+ghost use Rattle.std.specs.Prelude.{◌≡◌, ℕ, ◌+◌, ◌≤◌, IfOk, IsTrue, All, length};
 ghost use Rattle.std.specs.List.{list_all};
 ghost use Rattle.pl_build.specs.Paths.{IsPath};
-ghost use Rattle.pl_world.specs.Worlds.{IsUncalled, FitsLimits, HaveSmallLanes, recorded};
+ghost use Rattle.pl_world.specs.Worlds.{IsUncalled, FitsLimits, HaveSmallLanes, AnswersWorld, recorded};
 ghost use Rattle.pl_world.specs.declared.worlds.WorldRefusal.TheVariants as refusal;
 ghost use Rattle.pl_world.specs.Limits.{input_fits, is_placed, is_within};
 
@@ -92,10 +92,7 @@ impl<S: Stage, T: Transport> World<S, T> {
     ) -> Result<Self, WorldRefusal>
         requires small { HaveSmallLanes S.meaning S.stands_after T.state pipelines inputs transports executors }
         requires uncalled { All (λ transport. IsUncalled (T.state transport)) transports }
-        ensures executors { IfOk result (λ world. world.executors ≡ executors) }
-        ensures channels { IfOk result (λ world. world.channels ≡ recorded pipelines inputs transports) }
-        ensures allowed { OnOk result (is_within pipelines inputs transports executors ≡ true) }
-        ensures refused { IfErr result (λ e. e ≡ (if is_within pipelines inputs transports executors then refusal.Memory else refusal.Limit)) }
+        ensures answers { AnswersWorld pipelines inputs transports executors result }
     {
         if !is_within(
             pipelines.as_slice(),
@@ -149,10 +146,7 @@ impl<S: Thrifty, T: Transport> World<S, T> {
         executors: u16,
     ) -> Result<Self, WorldRefusal>
         requires { All (λ transport. IsUncalled (T.state transport)) transports }
-        ensures executors { IfOk result (λ world. world.executors ≡ executors) }
-        ensures channels { IfOk result (λ world. world.channels ≡ recorded pipelines inputs transports) }
-        ensures allowed { OnOk result (is_within pipelines inputs transports executors ≡ true) }
-        ensures refused { IfErr result (λ e. e ≡ (if is_within pipelines inputs transports executors then refusal.Memory else refusal.Limit)) }
+        ensures answers { AnswersWorld pipelines inputs transports executors result }
     {
         World::new(alloc, pipelines, inputs, transports, executors)
     }

@@ -135,17 +135,20 @@ fn refusal(
     }
 }
 
+/// How many channels, inputs and executors, and why there is no world of so many.
+const NUMBERS: [(usize, usize, u16, Option<WorldRefusal>); 7] = [
+    (64, 64, 1, None),
+    (65, 65, 1, Some(WorldRefusal::Limit)),
+    (1, 1, 64, None),
+    (1, 1, 65, Some(WorldRefusal::Limit)),
+    (1, 1, 0, Some(WorldRefusal::Limit)),
+    (1, 2, 1, Some(WorldRefusal::Limit)),
+    (2, 1, 1, Some(WorldRefusal::Limit)),
+];
+
 #[test]
 fn too_many_channels(rt: HostRuntime) -> Result<(), Fail> {
-    for (channels, inputs, executors, want) in [
-        (64, 64, 1, None),
-        (65, 65, 1, Some(WorldRefusal::Limit)),
-        (1, 1, 64, None),
-        (1, 1, 65, Some(WorldRefusal::Limit)),
-        (1, 1, 0, Some(WorldRefusal::Limit)),
-        (1, 2, 1, Some(WorldRefusal::Limit)),
-        (2, 1, 1, Some(WorldRefusal::Limit)),
-    ] {
+    for (channels, inputs, executors, want) in NUMBERS {
         let found = refusal(rt.alloc(), channels, inputs, executors, &[&[b"PING\n"]])?;
         assert_eq!(rt; found, want);
     }
@@ -228,14 +231,7 @@ fn refusal_over_memory(
 #[test]
 fn refused_over_memory(rt: HostRuntime) -> Result<(), Fail> {
     let alloc = rt.alloc();
-    for (channels, inputs, executors, want) in [
-        (64, 64, 1, None),
-        (65, 65, 1, Some(WorldRefusal::Limit)),
-        (1, 1, 65, Some(WorldRefusal::Limit)),
-        (1, 1, 0, Some(WorldRefusal::Limit)),
-        (1, 2, 1, Some(WorldRefusal::Limit)),
-        (2, 1, 1, Some(WorldRefusal::Limit)),
-    ] {
+    for (channels, inputs, executors, want) in NUMBERS {
         assert_eq!(rt;
             refusal_over_memory(alloc, channels, inputs, executors, PING)?,
             want

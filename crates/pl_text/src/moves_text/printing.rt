@@ -22,24 +22,13 @@ impl MoveTerm {
         ensures text { encode_utf8 result.letter ++ decimal result.number ≡ move_text step }
         ensures sayable { IsSayable step }
     {
-        match step {
-            Move::Read(number) => MoveTerm {
-                letter: 'R',
-                number,
-            },
-            Move::Task(number) => MoveTerm {
-                letter: 'T',
-                number,
-            },
-            Move::Hand(number) => MoveTerm {
-                letter: 'H',
-                number,
-            },
-            Move::Out(number) => MoveTerm {
-                letter: 'O',
-                number,
-            },
-        }
+        let (letter, number) = match step {
+            Move::Read(number) => ('R', number),
+            Move::Task(number) => ('T', number),
+            Move::Hand(number) => ('H', number),
+            Move::Out(number) => ('O', number),
+        };
+        MoveTerm { letter, number }
     }
 }
 

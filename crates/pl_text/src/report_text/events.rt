@@ -84,26 +84,6 @@ fn add_command(text: &mut Vec<u8>, command: &Command) -> Result<(), AllocError>
     }
 }
 
-/// Adds the read of a command, which most events are.
-fn add_read(text: &mut Vec<u8>, command: &Command) -> Result<(), AllocError>
-    ensures { OnOk result (text.new.items ≡ text.old.items ++ codes "Read " ++ command_text command.now) }
-{
-    match command {
-        Command::Ping => text.extend_from_slice(b"Read Ping"),
-        Command::Quit => text.extend_from_slice(b"Read Quit"),
-        Command::Echo(bytes) => {
-            text.extend_from_slice(b"Read Echo ")?;
-            add_hex(text, bytes.as_slice())
-        }
-        Command::Add(key, number) => {
-            add_named(text, b"Read Add ", key)?;
-            text.push(b' ')?;
-            add_number(text, u64::from(*number))
-        }
-        Command::Get(key) => add_named(text, b"Read Get ", key),
-    }
-}
-
 /// Adds a message: its kind, and its bytes as hex.
 fn add_message(text: &mut Vec<u8>, message: &Message) -> Result<(), AllocError>
     ensures { OnOk result (text.new.items ≡ text.old.items ++ message_text message.now) }
@@ -137,7 +117,6 @@ pub fn add_event(text: &mut Vec<u8>, event: &Event) -> Result<(), AllocError>
             text.extend_from_slice(b"User ")?;
             add_number(text, u64::from(*number))
         }
-        Event::Read(Message::Command(command)) => add_read(text, command),
         Event::Read(message) => {
             text.extend_from_slice(b"Read ")?;
             add_message(text, message)

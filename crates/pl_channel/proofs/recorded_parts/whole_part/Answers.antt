@@ -27,14 +27,19 @@ new-head-requires-clause-few g c =
     let p = channel_planned g.S.Stage.meaning g.T.Transport.state c.args.recorded in
     few-input g.S.Stage.meaning g.S.Stage.stands_after g.T.Transport.state c.args.recorded c.inbound.ensures.path c.requires.small (carrying (channel_lanes c.args.number p)) c.args.number (channel-lane c.args.number p)
 
-pub whole-requires-clause-planned : goal.whole-requires-clause-planned
-whole-requires-clause-planned g c =
+pub whole-requires-clause-stages : goal.whole-requires-clause-stages
+whole-requires-clause-stages g c =
     let p = channel_planned g.S.Stage.meaning g.T.Transport.state c.args.recorded in
-    let chains = c.into_parts-inbound.ensures.chains in (
-      carrying (channel_lanes c.args.number p),
-      are-planned g.S.Stage.meaning g.S.Stage.stands_after g.T.Transport.state c.args.recorded c.inbound.ensures.path c.requires.small (carrying (channel_lanes c.args.number p)) c.args.number (channel-lane c.args.number p)
-          c.turn-turn.result c.into_parts-inbound.result.0.items c.into_parts-inbound.result.1.items c.turn-turn.ensures.hop chains.inbound chains.outbound,
-    )
+    let chains = c.into_parts-inbound.ensures.chains in
+    record {
+      new_inbound = chains.new_inbound;
+      new_outbound = chains.new_outbound;
+      planned = (
+        carrying (channel_lanes c.args.number p),
+        are-planned g.S.Stage.meaning g.S.Stage.stands_after g.T.Transport.state c.args.recorded c.inbound.ensures.path c.requires.small (carrying (channel_lanes c.args.number p)) c.args.number (channel-lane c.args.number p)
+            c.turn-turn.result c.into_parts-inbound.result.0.items c.into_parts-inbound.result.1.items c.turn-turn.ensures.hop chains.inbound chains.outbound,
+      );
+    }
 
 -- the head is new, at the last hop
 head-fresh : (g : Over) (c : After-whole g) → IsFresh g.T.Transport.state c.args.recorded.input c.args.number (planned_head_hop (channel_planned g.S.Stage.meaning g.T.Transport.state c.args.recorded)) c.new-head.result

@@ -1,19 +1,19 @@
 use Rattle.std.proofs.Common.{◌≡◌, ◌+◌, ◌++◌, ℕ, length, ap, ◌∙◌, arith, length-append}
 use Rattle.std.specs.Prelude.{if◌then◌else◌}
 use Rattle.pl_context.specs.Ports.{as_items, end_after, offered}
-use Rattle.pl_context.proofs.ContextLemmas.{open-count, sum-count, port_after-downs, runs-out-list, appends-from, length-put_out, length-offered, was-open, length-items}
+use Rattle.pl_context.proofs.ContextLemmas.{open-count, sum-count, port_after-downs, runs-out-list, appends-from, length-put_out, length-offered, none-put, was-open, length-items}
 use Rattle.pl_context.proofs.contexts.put_made.Goals as goal
 
-pub returns-in-Ok-clause-down : goal.returns-in-Ok-clause-down
-returns-in-Ok-clause-down c = port_after-downs c.args.down.now c.put_all-in-Ok.new.self c.end_if.new.self c.args.below.now.items c.args.turned c.put_all-in-Ok.ensures.port c.end_if.ensures.port
+pub returns-in-Ok-clause-puts : goal.returns-in-Ok-clause-puts
+returns-in-Ok-clause-puts c = record {
+  up = c.put_all.ensures.port;
+  down = port_after-downs c.args.down.now c.put_all-in-Ok.new.self c.end_if.new.self c.args.below.now.items c.args.turned c.put_all-in-Ok.ensures.port c.end_if.ensures.port;
+  out = appends-from c.args.outputs.now c.reserve.new.self c.end_if.new.outputs c.args.up.now c.args.down.now (as_items c.args.above.now.items) (as_items c.args.below.now.items ++ end_after c.args.turned) c.reserve.ensures.items c.reserve.ensures.stopped c.reserve.ensures.grows
+      (runs-out-list c.reserve.new.self c.put_all.new.outputs c.put_all-in-Ok.new.outputs c.end_if.new.outputs c.args.up.now c.args.down.now c.put_all-in-Ok.new.self c.args.above.now.items c.args.below.now.items c.args.turned c.put_all.ensures.out c.put_all-in-Ok.ensures.out c.end_if.ensures.out c.put_all-in-Ok.ensures.port);
+}
 
-pub returns-in-Ok-clause-out : goal.returns-in-Ok-clause-out
-returns-in-Ok-clause-out c =
-    appends-from c.args.outputs.now c.reserve.new.self c.end_if.new.outputs c.args.up.now c.args.down.now (as_items c.args.above.now.items) (as_items c.args.below.now.items ++ end_after c.args.turned) c.reserve.ensures.items c.reserve.ensures.stopped c.reserve.ensures.grows
-    (runs-out-list c.reserve.new.self c.put_all.new.outputs c.put_all-in-Ok.new.outputs c.end_if.new.outputs c.args.up.now c.args.down.now c.put_all-in-Ok.new.self c.args.above.now.items c.args.below.now.items c.args.turned c.put_all.ensures.out c.put_all-in-Ok.ensures.out c.end_if.ensures.out c.put_all-in-Ok.ensures.port)
-
-pub returns-in-Err-clause-why : goal.returns-in-Err-clause-why
-returns-in-Err-clause-why c =
+pub returns-in-Err-clause-none : goal.returns-in-Err-clause-none
+returns-in-Err-clause-none c =
     let up_len : c.len.result ≡ length (as_items c.args.above.now.items) = omega (arith, c.len.ensures, c.args.above.now.ok.0, length-items c.args.above.now.items) in
     let up_places = c.places-events_up.ensures ∙ ap (λ (n : ℕ). if c.args.up.now.is_open then n else 0) up_len in
     let below = as_items c.args.below.now.items ++ end_after c.args.turned in
@@ -21,7 +21,8 @@ returns-in-Err-clause-why c =
     let down_places = sum-count c.args.down.now.is_open c.len-2.result c.quits.result c.places-events_down.result c.places-end.result c.places-events_down.ensures c.places-end.ensures ∙ ap (λ (n : ℕ). if c.args.down.now.is_open then n else 0) down_len in
     let one = length-offered c.args.up.now (as_items c.args.above.now.items) c.places-events_up.result up_places in
     let two = length-offered c.args.down.now below (c.places-events_down.result + c.places-end.result) down_places in
-    omega (arith, c.in-Err.ensures.refused, one, two, length-append (offered c.args.up.now (as_items c.args.above.now.items)) (offered c.args.down.now below))
+    none-put (as_items c.args.above.now.items) below c.args.up.now c.args.down.now c.args.outputs.now c.reserve.new.self c.reserve.ensures.items c.reserve.ensures.stopped c.reserve.ensures.grows
+    (omega (arith, c.in-Err.ensures.refused, one, two, length-append (offered c.args.up.now (as_items c.args.above.now.items)) (offered c.args.down.now below)))
 
 pub put_all-requires-in-Ok-clause-room : goal.put_all-requires-in-Ok-clause-room
 put_all-requires-in-Ok-clause-room c = λ o.

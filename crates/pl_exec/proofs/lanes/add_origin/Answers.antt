@@ -22,10 +22,9 @@ loop-lane-preserved c =
     let inv = c.loop-lane.invariant in
     let done = c.loop-lane.yielded in
     let lane = c.in-Some.lane in
-    let rest = c.next.new.self.rest.items in
     let more = c.in_ok-add_leaving.ensures in
     record {
-      rest = one-more c.args.leaving.items done c.loop-lane.lane-iterator.rest.items rest lane c.in-Some.ensures.steps.0 inv.rest;
+      rest = one-more c.args.leaving.items done c.loop-lane.lane-iterator.rest.items c.next.new.self.rest.items lane c.in-Some.ensures.steps.0 inv.rest;
       count = more.count ∙ inv.count;
       added = λ target before after at at' all.
           let within = slice_get_within c.add_leaving.new.table.items target after at' in

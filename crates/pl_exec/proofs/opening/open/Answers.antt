@@ -16,13 +16,13 @@ use Rattle.pl_exec.proofs.opening.open.Goals as goal
 
 pub overflow_cast-count : goal.overflow_cast-count
 overflow_cast-count g c =
-    let made = c.in_ok-origins.senders in
+    let made = c.in_ok-origins.lanes in
     let size = senders-count c.args.ways.items made.items c.in_ok-origins.ensures.lanes in
     omega (arith, size, c.len-count.ensures, made.ok.0, c.requires.few)
 
 pub open-requires-clause-some : goal.open-requires-clause-some
 open-requires-clause-some g c =
-    let size = senders-count c.args.ways.items c.in_ok-origins.senders.items c.in_ok-origins.ensures.lanes in
+    let size = senders-count c.args.ways.items c.in_ok-origins.lanes.items c.in_ok-origins.ensures.lanes in
     omega (arith, size, c.requires.some)
 
 pub open-requires-clause-apart : goal.open-requires-clause-apart
@@ -48,7 +48,7 @@ pub returns-clause-column : goal.returns-clause-column
 returns-clause-column g c =
     let name = ap (λ (a : AdmissionView). a.name) c.in_ok-inbox.ensures.admission in
     let ways = ways_in c.args.ways.items in
-    let made = c.in_ok-origins.senders in
+    let made = c.in_ok-origins.lanes in
     let lanes = c.in_ok-origins.ensures.lanes in
     subst (λ (inbox : InboxView g.row.M.Denot). IsColumn g.M.Mailbox.ends inbox ways (record { origins = c.in_ok-origins.origins.items; senders = c.in-Ok.opened.1.items; seats = c.in_ok-admission.seats.items }))
     (λ i. record { mailbox = sym c.in_ok-inbox.ensures.mailbox i; name = sym name i })

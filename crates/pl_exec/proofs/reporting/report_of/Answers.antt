@@ -68,12 +68,17 @@ find_nodes-requires-clause-count g c =
     let inv = c.loop-finished.invariant in
     sym (length-map c.loop-finished.stages.items (λ (row : Vec (Option (KeptStage g.row.S.Denot))). row.items)) ∙ inv.stages.count ∙ sym inv.found.count
 
-pub returns-clause-stages : goal.returns-clause-stages
-returns-clause-stages g c =
+pub returns : goal.returns
+returns g c =
     let plan = g.W.Planned.plan in
     let inv = c.loop-finished.invariant in
     let rest = c.loop-finished.finished-iterator.rest in
     let whole = all-done c.args.all.items c.loop-finished.yielded rest.items (nil_from_length rest.items (omega (arith, c.in-None.ensures.steps.0, rest.ok))) inv.rest in
     let count = ap (λ (l : List (FinishedView (ExecutorNodes g.row.S.Denot g.row.T.Denot))). length l) whole ∙ numbers-count (λ (e : FinishedView (ExecutorNodes g.row.S.Denot g.row.T.Denot)). e.nodes.number) c.args.all.items plan.executors c.requires.executors in
     let rows = slots_in c.loop-finished.stages.items in
-    all-stages g.S.Stage.stands_after plan rows c.requires.plan (subst (λ (n : ℕ). AreFoundRows g.S.Stage.stands_after plan n rows) count inv.stages)
+    record {
+      ran = record {
+        report = c.in_ok-reports.ensures.run;
+        stages = all-stages g.S.Stage.stands_after plan rows c.requires.plan (subst (λ (n : ℕ). AreFoundRows g.S.Stage.stands_after plan n rows) count inv.stages);
+      };
+    }

@@ -12,7 +12,7 @@ run_planned-requires-clause-seated g c =
     (ap (λ (l : List (Recorded g.row.S.Denot g.row.T.Denot)). length l) c.channels.ensures ∙ sym (length-map channels recorded_marks))
 
 pub returns-clause-report : goal.returns-clause-report
-returns-clause-report g c = c.in_ok-report.ensures.report
+returns-clause-report g c = c.in_ok-report.ensures.ran.report
 
 pub returns-clause-entered : goal.returns-clause-entered
 returns-clause-entered g c = c.in_ok-report.ensures.entered

@@ -7,11 +7,8 @@ pub run_planned-requires-clause-seated : goal.run_planned-requires-clause-seated
 run_planned-requires-clause-seated g c =
     λ κs live. each-new c.args.words.now (map recorded_marks c.args.world.channels) c.args.seats c.in_ok-seats.seats.items c.in_ok-seats.ensures.each c.requires.seats c.requires.marks c.in_ok-seats.ensures.unused
 
-pub returns-clause-report : goal.returns-clause-report
-returns-clause-report g c = c.run_planned.ensures.report
-
-pub returns-clause-stages : goal.returns-clause-stages
-returns-clause-stages g c = c.run_planned.ensures.stages
+pub returns-clause-ran : goal.returns-clause-ran
+returns-clause-ran g c = c.run_planned.ensures.ran
 
 pub returns-clause-entered : goal.returns-clause-entered
 returns-clause-entered g c = c.run_planned.ensures.entered

@@ -17,7 +17,7 @@ returns-clause-got g c =
     let n = c.args.nodes.now in
     let head = has-head g c in
     let size : c.len.result ≡ length n.parts.items = omega (arith, c.len.ensures, n.parts.ok.0) in
-    let slot : c.take_if.result ≡ only_if (is_some c.args.share.head) c.args.seats.now = c.take_if.ensures.taken ∙ ap (λ (b : Bool). only_if b c.args.seats.now) head in
+    let slot : c.take_where.result ≡ only_if (is_some c.args.share.head) c.args.seats.now = c.take_where.ensures.taken ∙ ap (λ (b : Bool). only_if b c.args.seats.now) head in
     record {
       same = refl;
       parts = c.in_ok-push-2.ensures.items;
@@ -26,4 +26,4 @@ returns-clause-got g c =
     }
 
 pub returns-clause-left : goal.returns-clause-left
-returns-clause-left g c = c.take_if.ensures.left ∙ ap (λ (b : Bool). only_if (not b) c.args.seats.now) (has-head g c)
+returns-clause-left g c = c.take_where.ensures.left ∙ ap (λ (b : Bool). only_if (not b) c.args.seats.now) (has-head g c)

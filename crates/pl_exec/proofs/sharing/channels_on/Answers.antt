@@ -1,25 +1,13 @@
-use Rattle.std.proofs.Common.{◌≡◌, ℕ, List, [], map, take, ap, ◌∙◌, arith}
-use Rattle.std.specs.Global.{Vec}
+use Rattle.std.proofs.Common.{List, map, ap, ◌∙◌, arith}
 use Rattle.std.specs.List.{range_with_len}
 use Rattle.std.proofs.lemmas.List.{take_all}
 use Rattle.pl_part.specs.Parts.{ChannelPartView}
 use Rattle.pl_exec.specs.Sharing.{channels_on, rows_in}
-use Rattle.pl_exec.proofs.ChannelRows.{rows-lower, rows-more}
-use Rattle.pl_exec.proofs.LaneTablesSteps.{made-more}
+use Rattle.pl_exec.proofs.ChannelRows.{rows-lower, rows-more, rows-none}
 use Rattle.pl_exec.proofs.sharing.channels_on.Goals as goal
 
-no-channels : ℕ → List ℕ
-no-channels x = []
-
-pub loop-executor-preserved : goal.loop-executor-preserved
-unfolding no-channels
-loop-executor-preserved g c =
-    made-more (λ (row : Vec ℕ). row.items) no-channels c.loop-executor.rows.items c.push.new.self.items c.new.result c.loop-executor._executor c.loop-executor.invariant c.in_ok-push.ensures.items c.new.ensures.items
-
 pub loop-channel-init : goal.loop-channel-init
-loop-channel-init g c =
-    let all : c.loop-executor._executor ≡ c.args.count = omega (arith, c.loop-executor-test.false, c.loop-executor.auto._executor-end) in
-    c.loop-executor.invariant ∙ ap (λ (n : ℕ). map (channels_on (take 0 c.args.parts.now)) (range_with_len 0 n)) all
+loop-channel-init g c = rows-none c.in_ok-rows.rows.items c.args.count c.in_ok-rows.ensures.count c.in_ok-rows.ensures.none
 
 pub note_channel-requires : goal.note_channel-requires
 note_channel-requires g c =

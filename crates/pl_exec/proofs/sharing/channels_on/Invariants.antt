@@ -1,10 +1,7 @@
-use Rattle.std.proofs.Common.{◌≡◌, [], map, take}
+use Rattle.std.proofs.Common.{◌≡◌, map, take}
 use Rattle.std.specs.List.{range_with_len}
 use Rattle.pl_exec.specs.Sharing.{channels_on, rows_in}
 use Rattle.pl_exec.proofs.sharing.channels_on.Given as goal
-
-abbrev pub invariant-loop-executor : goal.invariant-loop-executor
-invariant-loop-executor g l = rows_in l.rows.items ≡ map (λ x. []) (range_with_len 0 l._executor)
 
 -- The rows have the first channels.
 abbrev pub invariant-loop-channel : goal.invariant-loop-channel

@@ -34,12 +34,12 @@ nodes_on-requires-clause-seats g c = c.loop-here.invariant.left.seats_count ∙ 
 pub loop-here-preserved : goal.loop-here-preserved
 loop-here-preserved g c =
     let inv = c.loop-here.invariant in
+    let all = c.loop-here.all in
     let done = c.loop-here.yielded in
+    let count : length all.items ≡ length done = inv.shared.count ∙ length-map done (λ (r : Vec ℕ). r.items) in
     let row = c.in-Some.here in
     let wholes = c.args.parts.items in
     let heads = c.args.seats.items in
-    let all = c.loop-here.all in
-    let count : length all.items ≡ length done = inv.shared.count ∙ length-map done (λ (r : Vec ℕ). r.items) in
     let number : c.len-number.result ≡ length done = omega (arith, c.len-number.ensures, all.ok.0, count) in
     let made = c.in_ok-nodes_on.ensures in
     let nodes = c.in_ok-nodes_on.field-0 in

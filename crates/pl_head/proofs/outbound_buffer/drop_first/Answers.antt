@@ -1,4 +1,4 @@
-use Rattle.std.proofs.Common.{◌≡◌, ℕ, ◌-◌, ◌++◌, List, Option, length, take, drop, ap₂, ◌∙◌, arith, length-drop}
+use Rattle.std.proofs.Common.{◌≡◌, ℕ, ◌-◌, List, Option, length, take, drop, ap₂, ◌∙◌, arith, length-drop}
 use Rattle.std.proofs.Math.Seq.{take-append_seam}
 use Rattle.pl_event.specs.declared.outcomes.Outcome.{Outcome}
 use Rattle.pl_head.proofs.outbound_buffer.drop_first.Goals as goal

@@ -1,15 +1,19 @@
-use Rattle.std.proofs.Common.{length, ap, List}
+use Rattle.std.proofs.Common.{rules, length, ap, List}
 use Rattle.pl_part_tests.specs.declared.relays.Relay.{Relay}
 use Rattle.pl_part_tests.specs.SampleParts.{sample_world}
 use Rattle.pl_part_tests.proofs.SampleLemmas.{sample-planned, made-sample, made-ready}
 use Rattle.pl_part_tests.proofs.relays.sample_part.Goals as goal
 
-pub whole-requires-clause-planned : goal.whole-requires-clause-planned
-whole-requires-clause-planned c = (
-  sample_world,
-  sample-planned c.in_ok-inbound.inbound.items c.in_ok-outbound.outbound.items _ _ _ c.in_ok-inbound.ensures.items c.in_ok-outbound.ensures.items
-      c.new_relay.ensures c.new_relay-2.ensures c.new_relay-3.ensures,
-)
+pub whole-requires-clause-stages : goal.whole-requires-clause-stages
+whole-requires-clause-stages c = record {
+  new_inbound = search rules;
+  new_outbound = search rules;
+  planned = (
+    sample_world,
+    sample-planned c.in_ok-inbound.inbound.items c.in_ok-outbound.outbound.items _ _ _ c.in_ok-inbound.ensures.items c.in_ok-outbound.ensures.items
+        c.new_relay.ensures c.new_relay-2.ensures c.new_relay-3.ensures,
+  );
+}
 
 pub returns-clause-sample : goal.returns-clause-sample
 returns-clause-sample c =

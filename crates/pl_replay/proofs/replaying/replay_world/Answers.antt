@@ -29,8 +29,8 @@ loop-step-preserved g c =
     let i = c.loop-step.step-index in
     let so_far = c.loop-step.invariant in
     let within : i < length moves = omega arith in
-    let made = c.in_ok-apply.ensures.made plan so_far.backlogs so_far.stands in
-    let on = true_from_ne_false _ (λ off. let refused = c.in_ok-apply.ensures.there plan so_far.backlogs so_far.stands off in cc) in
+    let made = c.in_ok-apply.ensures.applied.made plan so_far.backlogs so_far.stands in
+    let on = true_from_ne_false _ (λ off. let refused = c.in_ok-apply.ensures.applied.there plan so_far.backlogs so_far.stands off in cc) in
     record {
       there = there-next plan moves i _ within so_far.there on;
       start = so_far.start;
@@ -45,7 +45,7 @@ returns-in_err-apply-clause-no_such g c = λ is.
     let plan = planned g.S.Stage.meaning g.T.Transport.state c.args.capacity c.args.world.executors c.args.world.channels in
     let so_far = c.loop-step.invariant in
     let within : c.loop-step.step-index < length c.args.moves.now = omega arith in
-    there-stops plan c.args.moves.now c.loop-step.step-index _ within (c.apply.ensures.no_such (search rules) plan so_far.backlogs so_far.stands)
+    there-stops plan c.args.moves.now c.loop-step.step-index _ within (c.apply.ensures.applied.no_such (search rules) plan so_far.backlogs so_far.stands)
 
 pub returns-clause-replayed : goal.returns-clause-replayed
 returns-clause-replayed g c =

@@ -43,11 +43,11 @@ invariant_of-self g c =
 pub returns-in_err-put_made-clause-why : goal.returns-in_err-put_made-clause-why
 returns-in_err-put_made-clause-why g c =
     let why = λ (xs : List Event) (h : g.S.Stage.stands_after c.self.inside.stage xs). offers-made (g.S.Stage.meaning c.self.inside.stage) xs c.args.event c.self.inside.up c.self.inside.down c.step.new.up.items c.step.new.down.items c.in_ok-turned.turned c.args.outputs.now.room
-    (all-made (c.in_ok-turned.ensures.up xs h) c.self.invariant.up_empty) (all-made (c.in_ok-turned.ensures.down xs h) c.self.invariant.down_empty) (c.in_ok-turned.ensures.turned xs h) c.in_err-put_made.ensures.why in
+    (all-made (c.in_ok-turned.ensures.up xs h) c.self.invariant.up_empty) (all-made (c.in_ok-turned.ensures.down xs h) c.self.invariant.down_empty) (c.in_ok-turned.ensures.turned xs h) c.in_err-put_made.ensures.none.why in
     rw (← c.self.view_is) (on_err c.from_residual-in_err-put_made.result (λ unspent xs h. why xs h))
 
 pub returns-clause-runs : goal.returns-clause-runs
 returns-clause-runs g c =
     rw (← c.self.view_is)
     (runs-from g.S.Stage.meaning g.S.Stage.stands_after _ c.args.event c.args.outputs.now c.put_made.new.outputs c.step.new.self c.put_made.new.up c.put_made.new.down c.step.new.up.items c.step.new.down.items c.in_ok-turned.turned
-    c.in_ok-turned.ensures.stands c.step.ensures.same_meaning (λ xs h. all-made (c.in_ok-turned.ensures.up xs h) c.self.invariant.up_empty) (λ xs h. all-made (c.in_ok-turned.ensures.down xs h) c.self.invariant.down_empty) c.in_ok-turned.ensures.turned c.in_ok-put_made.ensures.up c.in_ok-put_made.ensures.down c.in_ok-put_made.ensures.out)
+    c.in_ok-turned.ensures.stands c.step.ensures.same_meaning (λ xs h. all-made (c.in_ok-turned.ensures.up xs h) c.self.invariant.up_empty) (λ xs h. all-made (c.in_ok-turned.ensures.down xs h) c.self.invariant.down_empty) c.in_ok-turned.ensures.turned c.in_ok-put_made.ensures.puts.up c.in_ok-put_made.ensures.puts.down c.in_ok-put_made.ensures.puts.out)

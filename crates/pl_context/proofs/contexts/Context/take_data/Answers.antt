@@ -1,4 +1,4 @@
-use Rattle.std.proofs.Common.{◌≡◌, ◌≢◌, ℕ, ◌+◌, ◌∷◌, ◌++◌, [], List, length, Bool, true, refl, sym, ap, subst, ◌∙◌, arith, rules}
+use Rattle.std.proofs.Common.{◌≡◌, ◌≢◌, ℕ, ◌∷◌, ◌++◌, [], List, length, Bool, true, refl, sym, ap, subst, ◌∙◌, arith}
 use Rattle.std.specs.Prelude.{◌==◌}
 use Rattle.std.proofs.lemmas.Bool.{eqb-true}
 use Rattle.std.proofs.lemmas.List.{nil_from_length}
@@ -9,10 +9,11 @@ use Rattle.pl_context.specs.Standings.{has_failed}
 use Rattle.pl_context.specs.Stops.{StopsView, HasPlaces}
 use Rattle.pl_context.specs.declared.ports.Port.{Port}
 use Rattle.pl_context.specs.Ports.{as_items, put_out}
-use Rattle.pl_context.specs.ContextViews.{ContextView, lane_of, open_lanes}
+use Rattle.pl_context.specs.declared.standing.Took.TheVariants.{Ran}
+use Rattle.pl_context.specs.ContextViews.{ContextView, SameNode, lane_of, open_lanes}
 use Rattle.pl_context.proofs.Places.{places-down}
 use Rattle.pl_context.proofs.PortLemmas.{port_after-nil, appends-alone}
-use Rattle.pl_context.proofs.ContextLemmas.{all-made, length-items, within-after, small-up, small-down, few-unchanged, counted-same, open-ended, open-failed, takes-unchanged, takes-up, takes-down, takes-fault}
+use Rattle.pl_context.proofs.ContextLemmas.{all-made, length-items, within-after, small-up, small-down, few-unchanged, counted-same, takes-unchanged, takes-open, takes-up, takes-down, takes-fault}
 use Rattle.pl_context.proofs.contexts.Context.take_data.Goals as goal
 
 -- a buffer that was found empty
@@ -120,8 +121,8 @@ invariant_of-self-in-Ok g c =
     let few = small-up g.S.Stage.meaning g.S.Stage.stands_after _ c.args.self.now c.self.view_is c.change-changed.new.stage c.args.envelope.item c.change-changed.new.item changes.0 changes.2 (c.in-Up.ensures.ready n).0 c.requires.few in
     let made = all-made changes.1 c.self.invariant.down_empty in
     record {
-      above = within-after c.self.inside.up c.put_changed-put.new.up (c.change-changed.new.item ∷ []) c.in-Ok.ensures.up few.0;
-      below = within-after c.self.inside.down c.put_changed-put.new.down (as_items c.change-changed.new.below.items) c.in-Ok.ensures.down (λ o. omega (arith, few.1 o, ap (λ (ys : List Event). length ys) made, length-items c.change-changed.new.below.items));
+      above = within-after c.self.inside.up c.put_changed-put.new.up (c.change-changed.new.item ∷ []) c.in-Ok.ensures.puts.up few.0;
+      below = within-after c.self.inside.down c.put_changed-put.new.down (as_items c.change-changed.new.below.items) c.in-Ok.ensures.puts.down (λ o. omega (arith, few.1 o, ap (λ (ys : List Event). length ys) made, length-items c.change-changed.new.below.items));
       aside = c.self.invariant.aside;
       counts = omega (arith, ap (λ (s : ContextView g.row.S.Denot). s.taken) c.self.view_is, c.requires.limit);
       flag_counts = c.self.invariant.flag_counts;
@@ -132,8 +133,8 @@ invariant_of-self-in-Ok g c =
 pub invariant_of-self-in-Err-Memory : goal.invariant_of-self-in-Err-Memory
 invariant_of-self-in-Err-Memory g c =
     record {
-      above = λ o. omega (arith, ap (λ (p : Port). p.made) c.in-Err-Memory.ensures.up_kept, c.self.invariant.above (sym (ap (λ (p : Port). p.is_open) c.in-Err-Memory.ensures.up_kept) ∙ o));
-      below = λ o. omega (arith, ap (λ (p : Port). p.made) c.in-Err-Memory.ensures.down_kept, c.self.invariant.below (sym (ap (λ (p : Port). p.is_open) c.in-Err-Memory.ensures.down_kept) ∙ o));
+      above = λ o. omega (arith, ap (λ (p : Port). p.made) c.in-Err-Memory.ensures.none.up, c.self.invariant.above (sym (ap (λ (p : Port). p.is_open) c.in-Err-Memory.ensures.none.up) ∙ o));
+      below = λ o. omega (arith, ap (λ (p : Port). p.made) c.in-Err-Memory.ensures.none.down, c.self.invariant.below (sym (ap (λ (p : Port). p.is_open) c.in-Err-Memory.ensures.none.down) ∙ o));
       aside = c.self.invariant.aside;
       counts = omega (arith, ap (λ (s : ContextView g.row.S.Denot). s.taken) c.self.view_is, c.requires.limit);
       flag_counts = c.self.invariant.flag_counts;
@@ -145,9 +146,9 @@ pub run_out-requires : goal.run_out-requires
 run_out-requires g c =
     let places = subst (λ (s : ContextView g.row.S.Denot). HasPlaces c.args.outputs.now.stopped (open_lanes s)) (sym c.self.view_is) c.requires.places in
     let lanes = λ (up down : Port). lane_of up ++ lane_of down ++ lane_of c.self.inside.flags in
-    subst (λ (s : StopsView). HasPlaces s (lanes c.put_changed-put.new.up c.put_changed-put.new.down)) (sym c.in-Err-Memory.ensures.stopped)
-    (subst (λ (p : Port). HasPlaces c.args.outputs.now.stopped (lanes p c.put_changed-put.new.down)) (sym c.in-Err-Memory.ensures.up_kept)
-    (subst (λ (p : Port). HasPlaces c.args.outputs.now.stopped (lanes c.self.inside.up p)) (sym c.in-Err-Memory.ensures.down_kept) places))
+    subst (λ (s : StopsView). HasPlaces s (lanes c.put_changed-put.new.up c.put_changed-put.new.down)) (sym c.in-Err-Memory.ensures.none.stopped)
+    (subst (λ (p : Port). HasPlaces c.args.outputs.now.stopped (lanes p c.put_changed-put.new.down)) (sym c.in-Err-Memory.ensures.none.up)
+    (subst (λ (p : Port). HasPlaces c.args.outputs.now.stopped (lanes c.self.inside.up p)) (sym c.in-Err-Memory.ensures.none.down) places))
 
 pub hand_on-requires-in-Down-clause-event : goal.hand_on-requires-in-Down-clause-event
 hand_on-requires-in-Down-clause-event g c =
@@ -187,106 +188,66 @@ invariant_of-self-in-Down g c =
       down_empty = c.in-Down.ensures.alone refl ∙ c.self.invariant.down_empty;
     }
 
-pub returns-in-No-clause-meaning : goal.returns-in-No-clause-meaning
-returns-in-No-clause-meaning g c =
-    c.take_item.ensures.meaning ∙ c.in-No.ensures.meaning ∙ ap (λ (s : ContextView g.row.S.Denot). g.S.Stage.meaning s.stage) c.self.view_is
-
-pub returns-in-No-clause-same_node : goal.returns-in-No-clause-same_node
-returns-in-No-clause-same_node g c =
-    let place = c.take_item.ensures.same_node in
+pub returns-in-No : goal.returns-in-No
+returns-in-No g c =
+    let no = c.in-No.ensures.no refl in
+    let takes = c.take_item.ensures in
+    let same = counted-same _ c.args.self.now c.self.view_is c.change-changed.new.stage no.0 in
     record {
-      channel = place.channel ∙ ap (λ (s : ContextView g.row.S.Denot). s.channel) c.self.view_is;
-      hop = place.hop ∙ ap (λ (s : ContextView g.row.S.Denot). s.hop) c.self.view_is;
-      taken = place.taken ∙ ap (λ (s : ContextView g.row.S.Denot). s.taken + 1) c.self.view_is;
-      flags_taken = place.flags_taken ∙ ap (λ (s : ContextView g.row.S.Denot). s.flags_taken) c.self.view_is;
+      same_meaning = takes.same_meaning ∙ c.in-No.ensures.meaning ∙ ap (λ (s : ContextView g.row.S.Denot). g.S.Stage.meaning s.stage) c.self.view_is;
+      same_node = subst (λ (s : ContextView g.row.S.Denot). SameNode s c.take_item.new.self) same takes.same_node;
+      takes = λ o. takes-unchanged g.S.Stage.meaning g.S.Stage.stands_after g.S.Stage.is_spent _ c.args.self.now c.self.view_is c.change-changed.new.stage c.args.envelope.item c.change-changed.new.item c.args.outputs.now c.take_item.new.outputs c.take_item.result c.take_item.new.self no.0 no.1
+          (takes.takes (ap (λ (s : ContextView g.row.S.Denot). s.standing) c.self.view_is ∙ o));
+      spent = λ o spent event is. takes.spent (ap (λ (s : ContextView g.row.S.Denot). s.standing) c.self.view_is ∙ o) (ap g.S.Stage.is_spent no.0 ∙ ap (λ (s : ContextView g.row.S.Denot). g.S.Stage.is_spent s.stage) c.self.view_is ∙ spent) event (no.1 ∙ is);
+      ended = λ e.
+          let h = takes.ended (ap (λ (s : ContextView g.row.S.Denot). s.standing) c.self.view_is ∙ e) in
+          (h.0, h.1 ∙ same, h.2);
+      dropped = λ e.
+          let h = takes.dropped (ap has_failed (ap (λ (s : ContextView g.row.S.Denot). s.standing) c.self.view_is) ∙ e) in
+          (h.0, h.1 ∙ same, h.2);
     }
-
-pub returns-in-No-clause-open : goal.returns-in-No-clause-open
-returns-in-No-clause-open g c =
-    let no = c.in-No.ensures.no refl in
-    λ o. takes-unchanged g.S.Stage.meaning g.S.Stage.stands_after g.S.Stage.is_spent _ c.args.self.now c.self.view_is c.change-changed.new.stage c.args.envelope.item c.change-changed.new.item c.args.outputs.now c.take_item.new.outputs c.take_item.result c.take_item.new.self no.0 no.1
-    (c.take_item.ensures.open (ap (λ (s : ContextView g.row.S.Denot). s.standing) c.self.view_is ∙ o))
-
-pub returns-in-No-clause-spent : goal.returns-in-No-clause-spent
-returns-in-No-clause-spent g c =
-    let no = c.in-No.ensures.no refl in
-    λ o spent event is. c.take_item.ensures.spent (ap (λ (s : ContextView g.row.S.Denot). s.standing) c.self.view_is ∙ o) (ap g.S.Stage.is_spent no.0 ∙ ap (λ (s : ContextView g.row.S.Denot). g.S.Stage.is_spent s.stage) c.self.view_is ∙ spent) event (no.1 ∙ is)
-
-pub returns-in-No-clause-ended : goal.returns-in-No-clause-ended
-returns-in-No-clause-ended g c =
-    let no = c.in-No.ensures.no refl in
-    λ e.
-    let h = c.take_item.ensures.ended (ap (λ (s : ContextView g.row.S.Denot). s.standing) c.self.view_is ∙ e) in
-    (h.0, h.1 ∙ counted-same _ c.args.self.now c.self.view_is c.change-changed.new.stage no.0, h.2)
-
-pub returns-in-No-clause-dropped : goal.returns-in-No-clause-dropped
-returns-in-No-clause-dropped g c =
-    let no = c.in-No.ensures.no refl in
-    λ e.
-    let h = c.take_item.ensures.dropped (ap has_failed (ap (λ (s : ContextView g.row.S.Denot). s.standing) c.self.view_is) ∙ e) in
-    (h.0, h.1 ∙ counted-same _ c.args.self.now c.self.view_is c.change-changed.new.stage no.0, h.2)
 
 pub returns-then-is_empty : goal.returns-then-is_empty
 returns-then-is_empty g c =
     let n : Up ≢ No = λ e. cc in
     let changes = c.in-Up.ensures.changes n in
-    let was = (c.in-Up.ensures.ready n).0 in
     let none : c.change-changed.new.below.items ≡ [] = found-empty c.change-changed.new.below.items c.change-changed.new.below.len c.is_empty.result c.is_empty.ensures c.if-is_empty.true c.change-changed.new.below.ok.0 in
     let s = c.args.outputs.now.stopped in
-    record {
-      meaning = search rules;
-      same_node = search rules;
-      «open» = λ o. takes-up g.S.Stage.meaning g.S.Stage.stands_after g.S.Stage.is_spent _ c.args.self.now c.self.view_is c.args.envelope.item c.change-changed.new.item changes.0 [] c.args.outputs.now c.hand_on.new.outputs c.change-changed.new.stage c.hand_on.new.self c.self.inside.down
-          changes.2 c.in-Up.ensures.meaning (sym none ∙ all-made changes.1 c.self.invariant.down_empty) c.hand_on.ensures.port (sym (port_after-nil c.self.inside.down))
-          (appends-alone c.args.outputs.now c.hand_on.new.outputs s c.self.inside.down (put_out s c.self.inside.up (c.change-changed.new.item ∷ [])) c.hand_on.ensures.out);
-      spent = λ o spent event is. absurd (n (c.in-Up.ensures.spent (ap (λ (s : ContextView g.row.S.Denot). g.S.Stage.is_spent s.stage) c.self.view_is ∙ spent)));
-      ended = λ e. absurd (open-ended _ _ c.self.view_is was e);
-      dropped = λ e. absurd (open-failed _ _ c.self.view_is was e);
-    }
+    takes-open g.S.Stage.meaning g.S.Stage.stands_after g.S.Stage.is_spent _ c.args.self.now c.self.view_is c.args.envelope.item c.args.outputs.now c.hand_on.new.outputs Ran _ (c.in-Up.ensures.ready n).0 (λ spent. n (c.in-Up.ensures.spent spent)) c.in-Up.ensures.meaning (record { channel = refl; hop = refl; taken = refl; flags_taken = refl })
+    (takes-up g.S.Stage.meaning g.S.Stage.stands_after g.S.Stage.is_spent _ c.args.self.now c.self.view_is c.args.envelope.item c.change-changed.new.item changes.0 [] c.args.outputs.now c.hand_on.new.outputs c.change-changed.new.stage c.hand_on.new.self c.self.inside.down
+    changes.2 c.in-Up.ensures.meaning (sym none ∙ all-made changes.1 c.self.invariant.down_empty) c.hand_on.ensures.port (sym (port_after-nil c.self.inside.down))
+    (appends-alone c.args.outputs.now c.hand_on.new.outputs s c.self.inside.down (put_out s c.self.inside.up (c.change-changed.new.item ∷ [])) c.hand_on.ensures.out))
 
 pub returns-in-Ok : goal.returns-in-Ok
 returns-in-Ok g c =
     let n : Up ≢ No = λ e. cc in
     let changes = c.in-Up.ensures.changes n in
-    let was = (c.in-Up.ensures.ready n).0 in
-    record {
-      meaning = search rules;
-      same_node = search rules;
-      «open» = λ o. takes-up g.S.Stage.meaning g.S.Stage.stands_after g.S.Stage.is_spent _ c.args.self.now c.self.view_is c.args.envelope.item c.change-changed.new.item changes.0 c.change-changed.new.below.items c.args.outputs.now c.put_changed-put.new.outputs c.change-changed.new.stage c.put_changed-put.new.up c.put_changed-put.new.down
-          changes.2 c.in-Up.ensures.meaning (all-made changes.1 c.self.invariant.down_empty) c.in-Ok.ensures.up c.in-Ok.ensures.down c.in-Ok.ensures.out;
-      spent = λ o spent event is. absurd (n (c.in-Up.ensures.spent (ap (λ (s : ContextView g.row.S.Denot). g.S.Stage.is_spent s.stage) c.self.view_is ∙ spent)));
-      ended = λ e. absurd (open-ended _ _ c.self.view_is was e);
-      dropped = λ e. absurd (open-failed _ _ c.self.view_is was e);
-    }
+    let puts = c.in-Ok.ensures.puts in
+    takes-open g.S.Stage.meaning g.S.Stage.stands_after g.S.Stage.is_spent _ c.args.self.now c.self.view_is c.args.envelope.item c.args.outputs.now c.put_changed-put.new.outputs Ran _ (c.in-Up.ensures.ready n).0 (λ spent. n (c.in-Up.ensures.spent spent)) c.in-Up.ensures.meaning (record { channel = refl; hop = refl; taken = refl; flags_taken = refl })
+    (takes-up g.S.Stage.meaning g.S.Stage.stands_after g.S.Stage.is_spent _ c.args.self.now c.self.view_is c.args.envelope.item c.change-changed.new.item changes.0 c.change-changed.new.below.items c.args.outputs.now c.put_changed-put.new.outputs c.change-changed.new.stage c.put_changed-put.new.up c.put_changed-put.new.down
+    changes.2 c.in-Up.ensures.meaning (all-made changes.1 c.self.invariant.down_empty) puts.up puts.down puts.out)
 
 pub returns-in-Err-Memory : goal.returns-in-Err-Memory
 returns-in-Err-Memory g c =
     let n : Up ≢ No = λ e. cc in
     let changes = c.in-Up.ensures.changes n in
-    let was = (c.in-Up.ensures.ready n).0 in
-    let kept = c.in-Err-Memory.ensures in
-    record {
-      meaning = search rules;
-      same_node = search rules;
-      «open» = λ o. takes-fault g.S.Stage.meaning g.S.Stage.stands_after g.S.Stage.is_spent _ c.args.self.now c.self.view_is c.args.envelope.item c.change-changed.new.item changes.0 c.change-changed.new.below.items c.args.outputs.now c.put_changed-put.new.outputs c.run_out.new.outputs c.change-changed.new.stage c.put_changed-put.new.up c.put_changed-put.new.down c.run_out.new.self c.run_out.result
-          changes.2 (all-made changes.1 c.self.invariant.down_empty) kept.up_kept kept.down_kept kept.items kept.stopped kept.grows kept.why c.run_out.ensures.failed c.run_out.ensures.closes;
-      spent = λ o spent event is. absurd (n (c.in-Up.ensures.spent (ap (λ (s : ContextView g.row.S.Denot). g.S.Stage.is_spent s.stage) c.self.view_is ∙ spent)));
-      ended = λ e. absurd (open-ended _ _ c.self.view_is was e);
-      dropped = λ e. absurd (open-failed _ _ c.self.view_is was e);
-    }
+    let closes = c.run_out.ensures.closes in
+    takes-open g.S.Stage.meaning g.S.Stage.stands_after g.S.Stage.is_spent _ c.args.self.now c.self.view_is c.args.envelope.item c.args.outputs.now c.run_out.new.outputs c.run_out.result c.run_out.new.self (c.in-Up.ensures.ready n).0 (λ spent. n (c.in-Up.ensures.spent spent))
+    (ap (λ (s : ContextView g.row.S.Denot). g.S.Stage.meaning s.stage) closes.context ∙ c.in-Up.ensures.meaning)
+    (record {
+      channel = ap (λ (s : ContextView g.row.S.Denot). s.channel) closes.context;
+      hop = ap (λ (s : ContextView g.row.S.Denot). s.hop) closes.context;
+      taken = ap (λ (s : ContextView g.row.S.Denot). s.taken) closes.context;
+      flags_taken = ap (λ (s : ContextView g.row.S.Denot). s.flags_taken) closes.context;
+    })
+    (takes-fault g.S.Stage.meaning g.S.Stage.stands_after g.S.Stage.is_spent _ c.args.self.now c.self.view_is c.args.envelope.item c.change-changed.new.item changes.0 c.change-changed.new.below.items c.args.outputs.now c.put_changed-put.new.outputs c.run_out.new.outputs c.change-changed.new.stage c.put_changed-put.new.up c.put_changed-put.new.down c.run_out.new.self c.run_out.result
+    changes.2 (all-made changes.1 c.self.invariant.down_empty) c.in-Err-Memory.ensures.none c.run_out.ensures.failed closes)
 
 pub returns-in-Down : goal.returns-in-Down
 returns-in-Down g c =
     let n : Down ≢ No = λ e. cc in
     let changes = c.in-Down.ensures.changes n in
-    let was = (c.in-Down.ensures.ready n).0 in
     let none = sym (all-made changes.1 c.self.invariant.down_empty) ∙ c.in-Down.ensures.alone refl ∙ c.self.invariant.down_empty in
-    record {
-      meaning = search rules;
-      same_node = search rules;
-      «open» = λ o. takes-down g.S.Stage.meaning g.S.Stage.stands_after g.S.Stage.is_spent _ c.args.self.now c.self.view_is c.args.envelope.item c.change-changed.new.item changes.0 c.args.outputs.now c.hand_on-in-Down.new.outputs c.change-changed.new.stage c.hand_on-in-Down.new.self
-          changes.2 c.in-Down.ensures.meaning none c.hand_on-in-Down.ensures.port c.hand_on-in-Down.ensures.out;
-      spent = λ o spent event is. absurd (n (c.in-Down.ensures.spent (ap (λ (s : ContextView g.row.S.Denot). g.S.Stage.is_spent s.stage) c.self.view_is ∙ spent)));
-      ended = λ e. absurd (open-ended _ _ c.self.view_is was e);
-      dropped = λ e. absurd (open-failed _ _ c.self.view_is was e);
-    }
+    takes-open g.S.Stage.meaning g.S.Stage.stands_after g.S.Stage.is_spent _ c.args.self.now c.self.view_is c.args.envelope.item c.args.outputs.now c.hand_on-in-Down.new.outputs Ran _ (c.in-Down.ensures.ready n).0 (λ spent. n (c.in-Down.ensures.spent spent)) c.in-Down.ensures.meaning (record { channel = refl; hop = refl; taken = refl; flags_taken = refl })
+    (takes-down g.S.Stage.meaning g.S.Stage.stands_after g.S.Stage.is_spent _ c.args.self.now c.self.view_is c.args.envelope.item c.change-changed.new.item changes.0 c.args.outputs.now c.hand_on-in-Down.new.outputs c.change-changed.new.stage c.hand_on-in-Down.new.self
+    changes.2 c.in-Down.ensures.meaning none c.hand_on-in-Down.ensures.port c.hand_on-in-Down.ensures.out)

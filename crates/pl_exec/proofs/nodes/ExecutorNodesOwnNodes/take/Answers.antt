@@ -1,11 +1,11 @@
-use Rattle.std.proofs.Common.{◌≡◌, ℕ, List, get_or, set, slice_get, Some, ap, sym, ◌∙◌, arith}
+use Rattle.std.proofs.Common.{◌≡◌, ◌==◌, ℕ, List, get_or, set, slice_get, Some, ap, sym, ◌∙◌, arith}
 use Rattle.pl_part.specs.Parts.{ChannelPartView}
 use Rattle.pl_part.specs.PartCalls.{Taken}
 use Rattle.pl_channel.specs.Channels.{IsTakenBy}
 use Rattle.pl_channel.proofs.OneChannel.{places-stay, taken-one}
 use Rattle.pl_exec.specs.declared.nodes.ExecutorNodes.{ExecutorNodes}
 use Rattle.pl_exec.specs.ExecutorNodes.{NodesStand, channel_parts}
-use Rattle.pl_exec.proofs.MovedNodes.{head-stays, take-stands}
+use Rattle.pl_exec.proofs.MovedNodes.{take-stands}
 use Rattle.pl_exec.proofs.ExecutorNodeLemmas.{next-here}
 use Rattle.pl_exec.proofs.PartsHere.{enters-index, enters-part, enters-slot}
 use Rattle.pl_exec.proofs.PartTold.{PartAt, in-order, stand-then, tells-after, tells-then, then-keeps, then-makes, then-stands, then-taken, told-parts}
@@ -77,14 +77,11 @@ tell_if-requires-clause-nodes g c =
 -- where it was not for the head, that is as it was
 pub tell_if-requires-clause-told : goal.tell_if-requires-clause-told
 tell_if-requires-clause-told g c = λ off.
-    let p = c.index_mut-part.result.now in
-    let ch = get_or c.args.self.now.here.items c.index.result.now 0 in
     let at = goal.at.tell_if-requires-clause-told g c in
     let o = own g at.After-index_mut-part in
     tells-then o.1 c.take.ensures.puts.same
-    (head-stays g.S.Stage.meaning g.S.Stage.stands_after g.S.Stage.is_spent g.T.Transport.state p c.take.new.self c.args.envelope c.args.work.now c.take.result c.take.new.work (taken g at.After-take).takes
-    (c.requires.stands.nodes.parts ch p o.1.there).holds.hops c.hops.result c.hops.ensures off)
-    (c.requires.stands.told ch)
+    ((taken g at.After-take).takes.path (ap (λ (n : ℕ). c.args.envelope.lane.hop == n) (sym c.head_hop.ensures) ∙ off)).1
+    (c.requires.stands.told (get_or c.args.self.now.here.items c.index.result.now 0))
 
 -- ---- what stands after it
 

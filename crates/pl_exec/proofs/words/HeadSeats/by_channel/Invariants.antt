@@ -3,7 +3,4 @@ use Rattle.std.specs.Vec.Iter.{into_iter_items}
 use Rattle.pl_exec.proofs.words.HeadSeats.by_channel.Given as goal
 
 abbrev pub invariant-loop-own : goal.invariant-loop-own
-invariant-loop-own l = record {
-  rest : l.yielded ++ into_iter_items l.own-iterator ≡ l.fn.self;
-  made : l.seats.items ≡ map (λ s. Some s) l.yielded;
-}
+invariant-loop-own l = l.seats.items ++ map (λ s. Some s) (into_iter_items l.own-iterator) ≡ map (λ s. Some s) l.fn.self

@@ -28,36 +28,50 @@ returns-then-is_err-clause-lacks c =
       full = inr (search rules, search rules);
     }
 
-pub returns-in-Bytes-clause-flags : goal.returns-in-Bytes-clause-flags
-returns-in-Bytes-clause-flags c = λ accepted ys sizes s.
+pub returns-in-Bytes-clause-adds : goal.returns-in-Bytes-clause-adds
+returns-in-Bytes-clause-adds c =
     let m = c.make_place in
     let v = buffer_view m.new.self in
     let room : ℕ = deque_capacity c.reserve.new.self - deque_len c.reserve.new.self in
     let same = ap (λ (es : List Entry). record v { entries = es; entries_room = room }) c.reserve.ensures.items ∙ ap (λ (u : OutboundBufferView). record u { entries_room = room }) m.ensures.same in
-    rw (c.in-Write.is, c.in-Bytes.is, ← m.ensures.marks) (c.add_message.ensures.flags accepted ys sizes (stands-same (buffer_view c.args.self.now) same s))
+    record {
+      stands = λ accepted ys sizes s. rw (c.in-Write.is, c.in-Bytes.is) (c.add_message.ensures.stands accepted ys sizes (stands-same (buffer_view c.args.self.now) same s));
+      flags = λ accepted ys sizes s. rw (c.in-Write.is, c.in-Bytes.is, ← m.ensures.marks) (c.add_message.ensures.flags accepted ys sizes (stands-same (buffer_view c.args.self.now) same s));
+      numbering = search rules;
+    }
 
-pub returns-in-Write-clause-stands : goal.returns-in-Write-clause-stands
-returns-in-Write-clause-stands c = λ accepted ys sizes s.
+pub returns-in-Write-clause-adds : goal.returns-in-Write-clause-adds
+returns-in-Write-clause-adds c =
     let m = c.make_place in
     let v = buffer_view m.new.self in
+    let off = ap (λ (e : Event). is_flush e) c.in-Write.is in
     let makes = ap (λ (e : Event). write_by e) c.in-Write.is ∙ no_bytes c.in-Write.message c.in_default-message.not-Bytes in
-    stands-on c.args.event (ap (λ (e : Event). is_flush e) c.in-Write.is) (None ∷ []) makes refl _ _ v c.add_settled.ensures.same
-    (λ left held. same_parts (sym (append-nil v.entries)) refl refl (adds v.entries v.offset v.flushed v.outcomes (flushed_writes ys) (unflushed_writes ys) left None held))
-    (stands-same (buffer_view c.args.self.now) m.ensures.same s)
+    record {
+      stands = λ accepted ys sizes s.
+          stands-on c.args.event off (None ∷ []) makes refl _ _ v c.add_settled.ensures.same
+          (λ left held. same_parts (sym (append-nil v.entries)) refl refl (adds v.entries v.offset v.flushed v.outcomes (flushed_writes ys) (unflushed_writes ys) left None held))
+          (stands-same (buffer_view c.args.self.now) m.ensures.same s);
+      flags = λ accepted ys sizes s. rw (c.add_settled.ensures.marks, m.ensures.marks) (sends_nothing c.args.event off (None ∷ []) makes refl _ _ sizes);
+      numbering = search rules;
+    }
 
-pub returns-in-Write-clause-flags : goal.returns-in-Write-clause-flags
-returns-in-Write-clause-flags c = λ accepted ys sizes s.
-    let makes = ap (λ (e : Event). write_by e) c.in-Write.is ∙ no_bytes c.in-Write.message c.in_default-message.not-Bytes in
-    rw (c.add_settled.ensures.marks, c.make_place.ensures.marks) (sends_nothing c.args.event (ap (λ (e : Event). is_flush e) c.in-Write.is) (None ∷ []) makes refl _ _ sizes)
+pub returns-in-Flush-clause-adds : goal.returns-in-Flush-clause-adds
+returns-in-Flush-clause-adds c = record {
+  stands = λ accepted ys sizes s. rw c.in-Flush.is (c.add_flush.ensures.stands accepted ys sizes s);
+  flags = λ accepted ys sizes s. rw c.in-Flush.is (c.add_flush.ensures.flags accepted ys sizes s);
+  numbering = search rules;
+}
 
-pub returns-clause-stands : goal.returns-clause-stands
-returns-clause-stands c = λ accepted ys sizes s.
+pub returns-clause-adds : goal.returns-clause-adds
+returns-clause-adds c =
     let b = buffer_view c.args.self.now in
-    stands-on c.args.event (no_flush c.args.event c.in_default.not-Flush) [] (no_write c.args.event c.in_default.not-Write) refl _ _ b refl (λ left held. rw (append-nil (unflushed_writes ys)) held) s
-
-pub returns-clause-flags : goal.returns-clause-flags
-returns-clause-flags c = λ accepted ys sizes s.
-    sends_nothing c.args.event (no_flush c.args.event c.in_default.not-Flush) [] (no_write c.args.event c.in_default.not-Write) refl _ _ sizes
+    let off = no_flush c.args.event c.in_default.not-Flush in
+    let makes = no_write c.args.event c.in_default.not-Write in
+    record {
+      stands = λ accepted ys sizes s. stands-on c.args.event off [] makes refl _ _ b refl (λ left held. rw (append-nil (unflushed_writes ys)) held) s;
+      flags = λ accepted ys sizes s. sends_nothing c.args.event off [] makes refl _ _ sizes;
+      numbering = search rules;
+    }
 
 pub returns-then-not-make_place-clause-numbered : goal.returns-then-not-make_place-clause-numbered
 returns-then-not-make_place-clause-numbered c = λ e. cc e

@@ -1,13 +1,12 @@
 use Rattle.std.proofs.Common.{◌≡◌, ◌-◌, ◌≤◌, ℕ, All, List, Option, length, take, subst, ap, sym, ◌∙◌, refl, arith, length-drop}
 use Rattle.std.specs.List.Sorted.{IsStrictlyIncreasing}
-use Rattle.std.specs.VecDeque.{deque_len, deque_capacity}
 use Rattle.pl_event.specs.declared.outcomes.Outcome.{Outcome}
 use Rattle.pl_head.specs.declared.outbound_buffer.Entry.{Entry}
 use Rattle.pl_head.specs.declared.outbound_buffer.OutboundBuffer.{OutboundBuffer}
-use Rattle.pl_head.specs.Buffers.{ForgetsWrites, first_waiting}
+use Rattle.pl_head.specs.Buffers.{first_waiting}
 use Rattle.pl_head.specs.OutboundStand.{buffer_view}
 use Rattle.pl_head.specs.Settling.{numbers_from}
-use Rattle.pl_head.specs.WaitingMessages.{entry_numbers, entries_size, renumbered}
+use Rattle.pl_head.specs.WaitingMessages.{entry_numbers, entries_size}
 use Rattle.pl_head.proofs.Accounts.{account-same}
 use Rattle.pl_head.proofs.Forgetting.{forgets-first, forgets-by}
 use Rattle.pl_head.proofs.Renumbering.{least-waits, account-renumbered, rises-renumbered, size-of, numbers-most}

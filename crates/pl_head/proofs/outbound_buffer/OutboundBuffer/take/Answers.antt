@@ -1,4 +1,4 @@
-use Rattle.std.proofs.Common.{[], List, ℕ, Some, false, Err, refl, ap, subst, ◌∙◌}
+use Rattle.std.proofs.Common.{rules, [], List, ℕ, Some, false, Err, refl, ap, subst, ◌∙◌}
 use Rattle.pl_event.specs.declared.outcomes.Outcome.TheVariants.{Closed}
 use Rattle.pl_head.specs.declared.outbound_buffer.Refusal.{Refusal}
 use Rattle.pl_head.specs.Settling.{GoesOn}
@@ -18,16 +18,22 @@ returns-in-Numbered-clause-err c = λ accepted ys sizes s.
     failed-numbered Closed accepted ys [] false _ c.args.event n (buffer_view c.add_settled.new.self) (Some numbered.2) numbered.3 (adding n n refl c.add_settled.ensures.same) failed goes
     (ap (λ (v : OutboundBufferView). v.outcomes) c.add_settled.ensures.same)
 
-pub returns-in-Numbered-clause-settles : goal.returns-in-Numbered-clause-settles
-returns-in-Numbered-clause-settles c =
+pub returns-in-Numbered-clause-takes_in : goal.returns-in-Numbered-clause-takes_in
+returns-in-Numbered-clause-takes_in c =
     let failed = c.fail.new.self in
     let kept = c.in-Err.ensures.refused in
     let settles = c.fail.ensures.takes_out.settles in
     record {
-      settled =
-          goes_on-adds c.args.self.now.settled.items failed.settled.items failed.outcomes.items failed.account
-          (subst (λ (ns : List ℕ). GoesOn ns failed.settled.items) (ap (λ (v : OutboundBufferView). v.settled) kept) settles.settled) c.add_settled.ensures.settled;
-      told = ap (λ (v : OutboundBufferView). v.told) c.add_settled.ensures.same ∙ settles.told ∙ ap (λ (v : OutboundBufferView). v.told) kept;
+      stops = search rules;
+      same = search rules;
+      settles = record {
+        settled =
+            goes_on-adds c.args.self.now.settled.items failed.settled.items failed.outcomes.items failed.account
+            (subst (λ (ns : List ℕ). GoesOn ns failed.settled.items) (ap (λ (v : OutboundBufferView). v.settled) kept) settles.settled) c.add_settled.ensures.settled;
+        told = ap (λ (v : OutboundBufferView). v.told) c.add_settled.ensures.same ∙ settles.told ∙ ap (λ (v : OutboundBufferView). v.told) kept;
+      };
+      pending = search rules;
+      count = search rules;
     }
 
 pub returns-in-Unnumbered-clause-err : goal.returns-in-Unnumbered-clause-err

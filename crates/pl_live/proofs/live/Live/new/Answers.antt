@@ -19,10 +19,10 @@ transports : (g : _) (c : After-into_stations g) → c.push-3.new.self ≡ c.arg
 transports g c = c.in_ok-push-3.ensures.items ∙ ap (λ (l : List _). l ++ c.args.transport ∷ []) c.new-transports.ensures
 
 alone : (g : _) (c : After-into_stations g) → c.in_ok-world.world.channels ≡ (record { pipeline = c.args.pipeline; input = record { bursts = []; abort_after = None }; transport = c.args.transport }) ∷ []
-alone g c = c.in_ok-world.ensures.channels ∙ (λ i. recorded (pipelines g c i) (inputs g c i) (transports g c i))
+alone g c = c.in_ok-world.ensures.answers.channels ∙ (λ i. recorded (pipelines g c i) (inputs g c i) (transports g c i))
 
 begun : (g : _) (c : After-into_stations g) → LiveStands g.S.Stage.meaning g.S.Stage.stands_after g.T.Transport.state (channel_planned g.S.Stage.meaning g.T.Transport.state (record { pipeline = c.args.pipeline; input = record { bursts = []; abort_after = None }; transport = c.args.transport })) (record { stations = c.into_stations.result; room = MAX_FED - 1; ends = false; delivered = 0; front = []; gone = 0; consumed = 0 })
-begun g c = starts-from g.S.Stage.meaning g.S.Stage.stands_after g.T.Transport.state g.met.S.Thrifty.thrifty c.args.pipeline c.args.transport c.in_ok-world.world.executors c.in_ok-world.world.channels c.in-Ok.net c.into_stations.result c.in_ok-world.ensures.executors (alone g c) c.into_stations.ensures c.in-Ok.ensures.begins
+begun g c = starts-from g.S.Stage.meaning g.S.Stage.stands_after g.T.Transport.state g.met.S.Thrifty.thrifty c.args.pipeline c.args.transport c.in_ok-world.world.executors c.in_ok-world.world.channels c.in-Ok.net c.into_stations.result c.in_ok-world.ensures.answers.executors (alone g c) c.into_stations.ensures c.in-Ok.ensures.begins
 
 -- with no event next
 started : (g : _) (c : After-into_stations g) (front : List Event) → front ≡ [] → LiveStands g.S.Stage.meaning g.S.Stage.stands_after g.T.Transport.state (channel_planned g.S.Stage.meaning g.T.Transport.state (record { pipeline = c.args.pipeline; input = record { bursts = []; abort_after = None }; transport = c.args.transport })) (record { stations = c.into_stations.result; room = MAX_FED - 1; ends = false; delivered = 0; front = front; gone = 0; consumed = 0 })
@@ -39,4 +39,4 @@ returns-clause-rests g c = c.advance.ensures.rests (channel_planned g.S.Stage.me
 pub returns-clause-allowed : goal.returns-clause-allowed
 returns-clause-allowed g c =
     let then = (goal.at.returns-clause-allowed g c).After-into_stations in
-    is-allowed c.push.new.self c.push-2.new.self c.push-3.new.self c.args.pipeline c.args.transport (pipelines g then) (inputs g then) (transports g then) c.in_ok-world.ensures.allowed
+    is-allowed c.push.new.self c.push-2.new.self c.push-3.new.self c.args.pipeline c.args.transport (pipelines g then) (inputs g then) (transports g then) c.in_ok-world.ensures.answers.allowed

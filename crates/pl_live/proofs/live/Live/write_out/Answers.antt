@@ -23,20 +23,18 @@ loop-preserved g c =
       sent = λ p s. let sent = i.sent p s in omega (arith, sent, more, kept);
     }
 
-pub returns-clause-stands : goal.returns-clause-stands
-returns-clause-stands g c = c.loop.invariant.stands
-
-pub returns-clause-same : goal.returns-clause-same
-returns-clause-same g c = c.loop.invariant.same
-
-pub returns-clause-reads : goal.returns-clause-reads
-returns-clause-reads g c = c.loop.invariant.reads
-
-pub returns-clause-written : goal.returns-clause-written
-returns-clause-written g c = λ p w h s window is unfailed all.
-    let sent = c.loop.invariant.sent p s in
-    let over = c.loop-test.false in
-    absurd (omega (arith, sent, over, all))
+pub returns : goal.returns
+returns g c =
+    let i = c.loop.invariant in
+    record {
+      stands = i.stands;
+      same = i.same;
+      reads = i.reads;
+      written = λ p w h s window is unfailed all.
+          let sent = i.sent p s in
+          let over = c.loop-test.false in
+          absurd (omega (arith, sent, over, all));
+    }
 
 pub returns-then-not-offer-clause-written : goal.returns-then-not-offer-clause-written
 returns-then-not-offer-clause-written g c = λ p w h s window is unfailed _. c.offer.ensures.written c.if-not-offer.true p w h (c.loop.invariant.stands p s) window is unfailed

@@ -8,18 +8,15 @@ home-home-requires-clause-stands g c = let w = c.requires.stands in (w.0, w.3.ho
 
 pub work_off-requires-clause-stands : goal.work_off-requires-clause-stands
 work_off-requires-clause-stands g c =
-    let w = c.requires.stands in
-    let t = c.if-not-move_head.ensures in (
+    let w = c.requires.stands in (
       w.0,
       w.2,
-      given-stands g.N.Nodes.view_of g.N.Nodes.stands w.0 w.1 _ _ c.home-home.ensures (stations_view c.args.self.now w.2) c.requires.rests w.3 c.move_head.new.self c.move_head.new.work
-          (t.view refl) (t.stands w.0 w.3.hold) (t.makes w.0 w.3.hold),
+      given-stands g.N.Nodes.view_of g.N.Nodes.stands w.0 w.1 c.args.channel _ (stations_view c.args.self.now w.2) c.home-home.ensures c.requires.rests w.3 c.move_head.new.self c.move_head.new.work c.move_head.ensures.gives,
     )
 
 pub returns-clause-runs : goal.returns-clause-runs
 returns-clause-runs g c = λ is world x backlogs h.
-    let t = c.if-not-move_head.ensures in
     let from = stations_view c.args.self.now backlogs in
-    let stands = given-stands g.N.Nodes.view_of g.N.Nodes.stands world x _ _ c.home-home.ensures from c.requires.rests h c.move_head.new.self c.move_head.new.work (t.view refl) (t.stands world h.hold) (t.makes world h.hold) in
-    given-settles g.N.Nodes.view_of g.N.Nodes.stands world x _ _ c.home-home.ensures from c.requires.rests h c.move_head.new.self c.move_head.new.work
-    g.N.Nodes.takes g.N.Nodes.moves c.args.by c.args.channel (t.moves refl) (λ b. stations_view c.work_off.new.self b) (c.work_off.ensures.settles world backlogs stands)
+    let stands = given-stands g.N.Nodes.view_of g.N.Nodes.stands world x c.args.channel _ from c.home-home.ensures c.requires.rests h c.move_head.new.self c.move_head.new.work c.move_head.ensures.gives in
+    given-settles g.N.Nodes.view_of g.N.Nodes.stands world x c.args.channel _ from c.home-home.ensures c.requires.rests h c.move_head.new.self c.move_head.new.work
+    g.N.Nodes.takes g.N.Nodes.moves c.args.by (c.if-not-move_head.ensures.moves refl) (λ b. stations_view c.work_off.new.self b) (c.work_off.ensures.settles world backlogs stands)

@@ -16,7 +16,7 @@ loop-init g c =
 pub loop-preserved : goal.loop-preserved
 loop-preserved g c = record {
   keeps = keeps-then c.args.self.now c.loop.self c.offer.new.self c.loop.invariant.keeps
-      (offer-keeps c.loop.self c.offer.new.self c.in-Some-oldest.target c.offer.result c.in_default-offer.not-Handed c.offer.ensures.offers);
+      (offer-keeps c.loop.self c.offer.new.self c.in-Some-oldest.way c.offer.result c.in_default-offer.not-Handed c.offer.ensures.offers);
   stays = stays-then c.args.self.now c.loop.self c.offer.new.self c.loop.invariant.stays c.offer.ensures.stays;
 }
 
@@ -35,8 +35,8 @@ returns-in-Handed-clause-none g c = tt
 pub returns-in-Handed-clause-handed : goal.returns-in-Handed-clause-handed
 returns-in-Handed-clause-handed g c =
     let o = c.args.self.now in
-    let target = c.in-Some-oldest.target in
-    subst (λ (p : OutboxesView). Sends o target p) (sym c.ring_for_many.ensures) (sends-first o c.loop.self c.offer.new.self target c.loop.invariant.keeps c.in-Handed.ensures.offers)
+    let way = c.in-Some-oldest.way in
+    subst (λ (p : OutboxesView). Sends o way p) (sym c.ring_for_many.ensures) (sends-first o c.loop.self c.offer.new.self way c.loop.invariant.keeps c.in-Handed.ensures.offers)
 
 pub offer-requires : goal.offer-requires
 offer-requires g c = record { there = c.in-Some-oldest.ensures.there }

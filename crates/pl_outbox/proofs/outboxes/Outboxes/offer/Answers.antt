@@ -1,15 +1,21 @@
-use Rattle.std.proofs.Common.{◌==◌, ◌||◌, refl, subst, ap, ◌∙◌}
-use Rattle.pl_outbox.specs.declared.outboxes.Offered.TheVariants.{Full}
-use Rattle.pl_outbox.specs.OutboxViews.{OutboxesView, was_tried, tried_after, Offers, FullOnce, Stays}
-use Rattle.pl_outbox.proofs.OfferSteps.{full-hold, full-offers, full-stays}
+use Rattle.std.proofs.Common.{◌≡◌, ◌==◌, ◌||◌, ◌<◌, List, length, set, refl, sym, subst, ap, ◌∙◌}
+use Rattle.std.specs.Option.{option_map}
+use Rattle.std.proofs.lemmas.Option.{slice_get_read}
+use Rattle.pl_event.specs.declared.envelopes.Envelope.{Envelope}
+use Rattle.pl_context.specs.WaitingViews.{Entry, Holds}
+use Rattle.pl_words.specs.Admissions.{AdmittedView}
+use Rattle.pl_outbox.specs.declared.outboxes.Offered.TheVariants.{Handed, Full, Nothing}
+use Rattle.pl_outbox.specs.OutboxViews.{OutboxView, OutboxesView, IsOutboxes, sends_for, was_tried, Offers, Stays}
+use Rattle.std.proofs.lemmas.List.{length-set}
+use Rattle.pl_outbox.proofs.OfferSteps.{set-back, nothing-offers, nothing-stays, may-offer, handed-hold, handed-offers, handed-stays, full-hold, full-offers, full-stays}
 use Rattle.pl_outbox.proofs.outboxes.Outboxes.offer.Goals as goal
 
--- ---- its queue was found full: what waits stays as it is
+-- ---- its queue is found full: what waits stays as it is
 
 pub invariant_of-self : goal.invariant_of-self
 invariant_of-self g c =
     let w = c.self.inside.waiting in (
-      full-hold g.W.Named.world c.self.inside.outboxes.items w c.self.inside.tries.tried c.self.inside.ways.items c.self.invariant.0 c.args.target w c.add.new.self.tried (λ entries holds. holds) refl (λ y. refl) refl,
+      full-hold g.W.Named.world c.self.inside.outboxes.items w c.self.inside.tries.tried c.self.inside.ways.items c.self.invariant.0 c.args.way w c.add.new.self.tried (λ entries holds. holds) refl (λ y. refl) refl,
       c.add.ensures.count ∙ c.self.invariant.1,
     )
 
@@ -17,8 +23,8 @@ pub returns-then-is_full-clause-offers : goal.returns-then-is_full-clause-offers
 returns-then-is_full-clause-offers g c =
     let os = c.self.inside.outboxes.items in
     let w = c.self.inside.waiting in
-    subst (λ (v : OutboxesView). Offers v c.args.target Full (record { outboxes = os; waiting = w; tried = c.add.new.self.tried; ways = c.self.inside.ways.items })) (c.self.view_is ∙ c.is_full.ensures.same)
-    (full-offers g.W.Named.world os w c.self.inside.tries.tried c.self.inside.ways.items c.self.invariant.0 c.args.target w c.add.new.self.tried (λ entries holds. holds) refl (λ y. refl) refl)
+    subst (λ (v : OutboxesView). Offers v c.args.way Full (record { outboxes = os; waiting = w; tried = c.add.new.self.tried; ways = c.self.inside.ways.items })) (c.self.view_is ∙ c.is_full.ensures.same)
+    (full-offers g.W.Named.world os w c.self.inside.tries.tried c.self.inside.ways.items c.self.invariant.0 c.args.way w c.add.new.self.tried (λ entries holds. holds) refl (λ y. refl) refl)
 
 pub returns-then-is_full-clause-full : goal.returns-then-is_full-clause-full
 returns-then-is_full-clause-full g c = c.is_full.ensures.full (cc)
@@ -28,22 +34,133 @@ returns-then-is_full-clause-stays g c =
     let os = c.self.inside.outboxes.items in
     let w = c.self.inside.waiting in
     subst (λ (v : OutboxesView). Stays v (record { outboxes = os; waiting = w; tried = c.add.new.self.tried; ways = c.self.inside.ways.items })) (c.self.view_is ∙ c.is_full.ensures.same)
-    (full-stays g.W.Named.world os w c.self.inside.tries.tried c.self.inside.ways.items c.self.invariant.0 c.args.target w c.add.new.self.tried (λ entries holds. holds) refl (λ y. refl) refl)
+    (full-stays g.W.Named.world os w c.self.inside.tries.tried c.self.inside.ways.items c.self.invariant.0 c.args.way w c.add.new.self.tried (λ entries holds. holds) refl (λ y. refl) refl)
 
 pub returns-then-is_full-clause-tried : goal.returns-then-is_full-clause-tried
 returns-then-is_full-clause-tried g c = λ y.
-    c.add.ensures.tried y ∙ ap (λ (v : OutboxesView). (y == c.args.target) || was_tried v y) (c.self.view_is ∙ c.is_full.ensures.same)
+    c.add.ensures.tried y ∙ ap (λ (v : OutboxesView). (y == c.args.way) || was_tried v y) (c.self.view_is ∙ c.is_full.ensures.same)
 
--- ---- the oldest is offered
+-- ---- nothing waits
 
-pub returns-clause-offers : goal.returns-clause-offers
-returns-clause-offers g c = subst (λ (v : OutboxesView). Offers v c.args.target c.offer_oldest.result c.offer_oldest.new.self) c.is_full.ensures.same c.offer_oldest.ensures.offers
+pub returns-in_default-clause-offers : goal.returns-in_default-clause-offers
+returns-in_default-clause-offers g c =
+    subst (λ (v : OutboxesView). Offers v c.args.way Nothing (record { outboxes = c.self.inside.outboxes.items; waiting = c.take.new.self; tried = c.self.inside.tries.tried; ways = c.self.inside.ways.items })) (c.self.view_is ∙ c.is_full.ensures.same)
+    (nothing-offers g.W.Named.world c.self.inside.outboxes.items c.self.inside.waiting c.self.inside.tries.tried c.self.inside.ways.items c.self.invariant.0 c.args.way c.take.new.self (c.in_default.ensures.first c.self.invariant.0.entries c.self.invariant.0.holds))
 
-pub returns-clause-full : goal.returns-clause-full
-returns-clause-full g c = subst (λ (v : OutboxesView). FullOnce g.M.Mailbox.ends g.W.Named.world v c.args.target c.offer_oldest.result) c.is_full.ensures.same c.offer_oldest.ensures.full
+pub returns-in_default-clause-stays : goal.returns-in_default-clause-stays
+returns-in_default-clause-stays g c =
+    subst (λ (v : OutboxesView). Stays v (record { outboxes = c.self.inside.outboxes.items; waiting = c.take.new.self; tried = c.self.inside.tries.tried; ways = c.self.inside.ways.items })) (c.self.view_is ∙ c.is_full.ensures.same)
+    (nothing-stays g.W.Named.world c.self.inside.outboxes.items c.self.inside.waiting c.self.inside.tries.tried c.self.inside.ways.items c.self.invariant.0 c.args.way c.take.new.self (c.in_default.ensures.first c.self.invariant.0.entries c.self.invariant.0.holds))
 
-pub returns-clause-stays : goal.returns-clause-stays
-returns-clause-stays g c = subst (λ (v : OutboxesView). Stays v c.offer_oldest.new.self) c.is_full.ensures.same c.offer_oldest.ensures.stays
+pub returns-in_default-clause-tried : goal.returns-in_default-clause-tried
+returns-in_default-clause-tried g c = λ y. ap (λ (v : OutboxesView). was_tried v y) (returns-in_default-clause-offers g c).0
 
-pub returns-clause-tried : goal.returns-clause-tried
-returns-clause-tried g c = λ y. c.offer_oldest.ensures.tried y ∙ ap (λ (v : OutboxesView). tried_after v c.args.target c.offer_oldest.result y) c.is_full.ensures.same
+-- ---- the first is offered
+
+pub offer-requires-clause-next : goal.offer-requires-clause-next
+offer-requires-clause-next g c =
+    let os = c.self.inside.outboxes.items in
+    let at = slice_get_read os (length os) c.args.way c.index_mut.result.now refl (subst (λ (v : OutboxesView). c.args.way < length v.outboxes) (sym (c.self.view_is ∙ c.is_full.ensures.same)) c.requires.there) c.index_mut.ensures.value in
+    (may-offer g.W.Named.world os c.self.inside.waiting c.self.inside.tries.tried c.self.inside.ways.items c.self.invariant.0 c.args.way c.in-Some.envelope c.in-Some.admitted c.take.new.self (c.in-Some.ensures.first c.self.invariant.0.entries c.self.invariant.0.holds) c.index_mut.result.now at).0
+
+pub offer-requires-clause-small : goal.offer-requires-clause-small
+offer-requires-clause-small g c =
+    let os = c.self.inside.outboxes.items in
+    let at = slice_get_read os (length os) c.args.way c.index_mut.result.now refl (subst (λ (v : OutboxesView). c.args.way < length v.outboxes) (sym (c.self.view_is ∙ c.is_full.ensures.same)) c.requires.there) c.index_mut.ensures.value in
+    (may-offer g.W.Named.world os c.self.inside.waiting c.self.inside.tries.tried c.self.inside.ways.items c.self.invariant.0 c.args.way c.in-Some.envelope c.in-Some.admitted c.take.new.self (c.in-Some.ensures.first c.self.invariant.0.entries c.self.invariant.0.holds) c.index_mut.result.now at).1.small
+
+pub offer-requires-clause-fits : goal.offer-requires-clause-fits
+offer-requires-clause-fits g c =
+    let os = c.self.inside.outboxes.items in
+    let at = slice_get_read os (length os) c.args.way c.index_mut.result.now refl (subst (λ (v : OutboxesView). c.args.way < length v.outboxes) (sym (c.self.view_is ∙ c.is_full.ensures.same)) c.requires.there) c.index_mut.ensures.value in
+    (may-offer g.W.Named.world os c.self.inside.waiting c.self.inside.tries.tried c.self.inside.ways.items c.self.invariant.0 c.args.way c.in-Some.envelope c.in-Some.admitted c.take.new.self (c.in-Some.ensures.first c.self.invariant.0.entries c.self.invariant.0.holds) c.index_mut.result.now at).1.fits
+
+-- ---- it is sent
+
+pub invariant_of-self-in-Ok : goal.invariant_of-self-in-Ok
+invariant_of-self-in-Ok g c =
+    let os = c.self.inside.outboxes.items in
+    let at = slice_get_read os (length os) c.args.way c.index_mut.result.now refl (subst (λ (v : OutboxesView). c.args.way < length v.outboxes) (sym (c.self.view_is ∙ c.is_full.ensures.same)) c.requires.there) c.index_mut.ensures.value in (
+      handed-hold g.W.Named.world os c.self.inside.waiting c.self.inside.tries.tried c.self.inside.ways.items c.self.invariant.0 c.args.way c.in-Some.envelope c.in-Some.admitted c.take.new.self (c.in-Some.ensures.first c.self.invariant.0.entries c.self.invariant.0.holds)
+          c.index_mut.result.now c.offer.new.self at c.in-Ok.ensures c.take.ensures.added,
+      c.self.invariant.1 ∙ sym (length-set os c.args.way c.offer.new.self),
+    )
+
+pub returns-in-Ok-clause-offers : goal.returns-in-Ok-clause-offers
+returns-in-Ok-clause-offers g c =
+    let os = c.self.inside.outboxes.items in
+    let at = slice_get_read os (length os) c.args.way c.index_mut.result.now refl (subst (λ (v : OutboxesView). c.args.way < length v.outboxes) (sym (c.self.view_is ∙ c.is_full.ensures.same)) c.requires.there) c.index_mut.ensures.value in
+    subst (λ (v : OutboxesView). Offers v c.args.way Handed (record { outboxes = set os c.args.way c.offer.new.self; waiting = c.take.new.self; tried = c.self.inside.tries.tried; ways = c.self.inside.ways.items })) (c.self.view_is ∙ c.is_full.ensures.same)
+    (handed-offers g.W.Named.world os c.self.inside.waiting c.self.inside.tries.tried c.self.inside.ways.items c.self.invariant.0 c.args.way c.in-Some.envelope c.in-Some.admitted c.take.new.self (c.in-Some.ensures.first c.self.invariant.0.entries c.self.invariant.0.holds)
+    c.index_mut.result.now c.offer.new.self at c.in-Ok.ensures c.take.ensures.added c.in-Some.ensures.first)
+
+pub returns-in-Ok-clause-stays : goal.returns-in-Ok-clause-stays
+returns-in-Ok-clause-stays g c =
+    let os = c.self.inside.outboxes.items in
+    let at = slice_get_read os (length os) c.args.way c.index_mut.result.now refl (subst (λ (v : OutboxesView). c.args.way < length v.outboxes) (sym (c.self.view_is ∙ c.is_full.ensures.same)) c.requires.there) c.index_mut.ensures.value in
+    subst (λ (v : OutboxesView). Stays v (record { outboxes = set os c.args.way c.offer.new.self; waiting = c.take.new.self; tried = c.self.inside.tries.tried; ways = c.self.inside.ways.items })) (c.self.view_is ∙ c.is_full.ensures.same)
+    (handed-stays g.W.Named.world os c.self.inside.waiting c.self.inside.tries.tried c.self.inside.ways.items c.self.invariant.0 c.args.way c.in-Some.envelope c.in-Some.admitted c.take.new.self (c.in-Some.ensures.first c.self.invariant.0.entries c.self.invariant.0.holds)
+    c.index_mut.result.now c.offer.new.self at c.in-Ok.ensures c.take.ensures.added)
+
+pub returns-in-Ok-clause-tried : goal.returns-in-Ok-clause-tried
+returns-in-Ok-clause-tried g c = λ y. ap (λ (v : OutboxesView). was_tried v y) (c.self.view_is ∙ c.is_full.ensures.same)
+
+-- ---- its queue was full for it
+
+pub returns-in-Err-clause-tried : goal.returns-in-Err-clause-tried
+returns-in-Err-clause-tried g c = λ y. c.add-in-Err.ensures.tried y ∙ ap (λ (v : OutboxesView). (y == c.args.way) || was_tried v y) (c.self.view_is ∙ c.is_full.ensures.same)
+
+pub put_back-requires : goal.put_back-requires
+put_back-requires g c =
+    let takes = c.in-Some.ensures.first c.self.invariant.0.entries c.self.invariant.0.holds in
+    (c.self.invariant.0.entries, takes.taken.0, record { target = c.args.way; envelope = c.in-Some.envelope; token = c.in-Some.admitted }, takes.taken.2, refl, takes.taken.4)
+
+held : (g : _) (c : goal.After-add-in-Err g) (entries : List (Entry AdmittedView)) → Holds c.self.inside.waiting entries → Holds c.put_back.new.self entries
+held g c entries holds =
+    let takes = c.in-Some.ensures.first entries holds in
+    let entry : Entry AdmittedView = record { target = c.args.way; envelope = c.in-Some.envelope; token = c.in-Some.admitted } in
+    subst (λ (zs : List (Entry AdmittedView)). Holds c.put_back.new.self zs) (set-back entries takes.taken.0 entry takes.taken.2)
+    (subst (λ (x : Envelope). Holds c.put_back.new.self (set entries takes.taken.0 (record { target = c.args.way; envelope = x; token = c.in-Some.admitted }))) c.in-Err.ensures.0
+    (c.put_back.ensures.back entries takes.taken.0 entry takes.taken.2 refl takes.taken.4))
+
+-- the outbox is as it was
+same-outboxes : (g : _) (c : goal.After-add-in-Err g) → c.self.inside.outboxes.items ≡ set c.self.inside.outboxes.items c.args.way c.offer.new.self
+same-outboxes g c =
+    let os = c.self.inside.outboxes.items in
+    let at = slice_get_read os (length os) c.args.way c.index_mut.result.now refl (subst (λ (v : OutboxesView). c.args.way < length v.outboxes) (sym (c.self.view_is ∙ c.is_full.ensures.same)) c.requires.there) c.index_mut.ensures.value in
+    sym (ap (λ (b : OutboxView). set os c.args.way b) c.in-Err.ensures.1 ∙ set-back os c.args.way c.index_mut.result.now at)
+
+pub invariant_of-self-in-Err : goal.invariant_of-self-in-Err
+invariant_of-self-in-Err g c =
+    let os = c.self.inside.outboxes.items in
+    let takes = c.in-Some.ensures.first c.self.invariant.0.entries c.self.invariant.0.holds in (
+      subst (λ (bs : List OutboxView). IsOutboxes g.W.Named.world (record { outboxes = bs; waiting = c.put_back.new.self; tried = c.add-in-Err.new.self.tried; ways = c.self.inside.ways.items })) (same-outboxes g c)
+          (full-hold g.W.Named.world os c.self.inside.waiting c.self.inside.tries.tried c.self.inside.ways.items c.self.invariant.0 c.args.way c.put_back.new.self c.add-in-Err.new.self.tried (held g c)
+          (c.put_back.ensures.added ∙ c.take.ensures.added) (λ y. c.put_back.ensures.stopped y ∙ takes.stopped y) (c.put_back.ensures.targets ∙ takes.targets)),
+      c.add-in-Err.ensures.count ∙ c.self.invariant.1 ∙ ap (λ (bs : List OutboxView). length bs) (same-outboxes g c),
+    )
+
+pub returns-in-Err-clause-offers : goal.returns-in-Err-clause-offers
+returns-in-Err-clause-offers g c =
+    let os = c.self.inside.outboxes.items in
+    let takes = c.in-Some.ensures.first c.self.invariant.0.entries c.self.invariant.0.holds in
+    subst (λ (z : OutboxesView × List OutboxView). Offers z.0 c.args.way Full (record { outboxes = z.1; waiting = c.put_back.new.self; tried = c.add-in-Err.new.self.tried; ways = c.self.inside.ways.items })) (λ i. ((c.self.view_is ∙ c.is_full.ensures.same) i, same-outboxes g c i))
+    (full-offers g.W.Named.world os c.self.inside.waiting c.self.inside.tries.tried c.self.inside.ways.items c.self.invariant.0 c.args.way c.put_back.new.self c.add-in-Err.new.self.tried (held g c)
+    (c.put_back.ensures.added ∙ c.take.ensures.added) (λ y. c.put_back.ensures.stopped y ∙ takes.stopped y) (c.put_back.ensures.targets ∙ takes.targets))
+
+pub returns-in-Err-clause-full : goal.returns-in-Err-clause-full
+returns-in-Err-clause-full g c =
+    let os = c.self.inside.outboxes.items in
+    let at = slice_get_read os (length os) c.args.way c.index_mut.result.now refl (subst (λ (v : OutboxesView). c.args.way < length v.outboxes) (sym (c.self.view_is ∙ c.is_full.ensures.same)) c.requires.there) c.index_mut.ensures.value in (
+      c.index_mut.result.now.sends,
+      ap (λ (v : OutboxesView). sends_for v c.args.way) (sym (c.self.view_is ∙ c.is_full.ensures.same)) ∙ ap (option_map (λ (o : OutboxView). o.sends)) at,
+      c.in-Err.ensures.2,
+    )
+
+pub returns-in-Err-clause-stays : goal.returns-in-Err-clause-stays
+returns-in-Err-clause-stays g c =
+    let os = c.self.inside.outboxes.items in
+    let takes = c.in-Some.ensures.first c.self.invariant.0.entries c.self.invariant.0.holds in
+    subst (λ (z : OutboxesView × List OutboxView). Stays z.0 (record { outboxes = z.1; waiting = c.put_back.new.self; tried = c.add-in-Err.new.self.tried; ways = c.self.inside.ways.items })) (λ i. ((c.self.view_is ∙ c.is_full.ensures.same) i, same-outboxes g c i))
+    (full-stays g.W.Named.world os c.self.inside.waiting c.self.inside.tries.tried c.self.inside.ways.items c.self.invariant.0 c.args.way c.put_back.new.self c.add-in-Err.new.self.tried (held g c)
+    (c.put_back.ensures.added ∙ c.take.ensures.added) (λ y. c.put_back.ensures.stopped y ∙ takes.stopped y) (c.put_back.ensures.targets ∙ takes.targets))

@@ -20,7 +20,7 @@ add_contexts-requires-clause-hops g c = λ i stage e.
     let none = ap (λ (l : List (Option (ContextView g.row.S.Denot))). length l) c.new-contexts.ensures.items in
     let first : 0 + i ≡ length c.new-contexts.result.items + i = omega (arith, none) in
     let k : length c.args.inbound.items ≡ c.len-k.result = omega (arith, c.len-k.ensures, c.args.inbound.ok.0) in
-    subst (λ (y : ℕ × ℕ). IsHop (g.S.Stage.meaning stage).direction y.0 y.1) (λ j. (first j, k j)) (c.requires.planned.1.planned_inbound i stage e).at
+    subst (λ (y : ℕ × ℕ). IsHop (g.S.Stage.meaning stage).direction y.0 y.1) (λ j. (first j, k j)) (c.requires.stages.planned.1.planned_inbound i stage e).at
 
 pub add_contexts-requires-2-clause-few : goal.add_contexts-requires-2-clause-few
 add_contexts-requires-2-clause-few g c =
@@ -36,7 +36,7 @@ add_contexts-requires-2-clause-hops g c = λ i stage e.
     let sum = length-append c.add_contexts.new.contexts.items (None ∷ []) in
     let first : length c.args.inbound.items + 1 + i ≡ length c.push.new.self.items + i = omega (arith, none, more, sum, c.in_ok-add_contexts.ensures.count) in
     let k : length c.args.inbound.items ≡ c.len-k.result = omega (arith, c.len-k.ensures, c.args.inbound.ok.0) in
-    subst (λ (y : ℕ × ℕ). IsHop (g.S.Stage.meaning stage).direction y.0 y.1) (λ j. (first j, k j)) (c.requires.planned.1.planned_outbound i stage e).at
+    subst (λ (y : ℕ × ℕ). IsHop (g.S.Stage.meaning stage).direction y.0 y.1) (λ j. (first j, k j)) (c.requires.stages.planned.1.planned_outbound i stage e).at
 
 pub invariant_of-result : goal.invariant_of-result
 invariant_of-result g c =

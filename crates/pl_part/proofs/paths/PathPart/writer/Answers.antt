@@ -1,4 +1,4 @@
-use Rattle.std.proofs.Common.{◌≡◌, ◌+◌, ◌-◌, length, sym, ap, ◌∙◌, arith}
+use Rattle.std.proofs.Common.{◌+◌, sym, ap, ◌∙◌}
 use Rattle.std.specs.Prelude.{◌==◌}
 use Rattle.std.proofs.lemmas.Bool.{cond-true, cond-false, eq-eqb, ne_eqb}
 use Rattle.pl_part.specs.Paths.{PathPartView, writer_hop}
@@ -6,10 +6,8 @@ use Rattle.pl_part.proofs.paths.PathPart.writer.Goals as goal
 
 pub returns-then-hop-eq0 : goal.returns-then-hop-eq0
 returns-then-hop-eq0 g c =
-    let slots : c.len.result ≡ length c.self.inside.contexts.items = omega (arith, c.len.ensures, c.self.inside.contexts.ok.0) in
-    slots
+    c.head_hop.ensures
     ∙ sym (cond-true (c.args.hop == 0) _ _ (eq-eqb _ _ c.if-hop-eq0.true))
-    ∙ ap (λ (y : PathPartView g.row.S.Denot). writer_hop y c.args.hop) c.self.view_is
 
 pub returns-then-hop-self : goal.returns-then-hop-self
 returns-then-hop-self g c =

@@ -1,25 +1,23 @@
-use Rattle.std.proofs.Common.{◌≡◌, Bool, length, slice_get, Some, refl, subst}
+use Rattle.std.proofs.Common.{◌≡◌, Bool, slice_get, Some, refl, subst}
 use Rattle.std.proofs.lemmas.Option.{slice_get_read}
 use Rattle.pl_part.specs.Parts.{PartMoves}
 use Rattle.pl_channel.proofs.Vecs.{put-back}
 use Rattle.pl_channel.proofs.HeadMoves.{moves-idle, may-move}
 use Rattle.pl_channel.proofs.OneChannel.{places-of}
-use Rattle.pl_replay.proofs.CallViews.{give-view, give-stands, give-makes}
+use Rattle.pl_replay.proofs.CallViews.{head-gives}
 use Rattle.pl_replay.proofs.channels.ChannelsNodes.move_head.Goals as goal
 use Rattle.pl_replay.proofs.channels.ChannelsNodes.move_head.Goals.{After-index_mut}
 
 own : (g : _) (c : After-index_mut g) → slice_get c.args.self.now.parts.items c.args.channel ≡ Some c.index_mut.result.now
-own g c =
-    let ps = c.args.self.now.parts.items in
-    slice_get_read ps (length ps) c.args.channel c.index_mut.result.now refl c.requires.there c.index_mut.ensures.value
+own g c = slice_get_read c.args.self.now.parts.items _ c.args.channel c.index_mut.result.now refl c.requires.there c.index_mut.ensures.value
 
-pub move_head-requires-clause-holds : goal.move_head-requires-clause-holds
-move_head-requires-clause-holds g c =
-    let w = c.requires.stands in
-    (w.0, (w.1.parts c.args.channel c.index_mut.result.now (own g (goal.at.move_head-requires-clause-holds g c).After-index_mut)).holds)
-
-pub move_head-requires-clause-places : goal.move_head-requires-clause-places
-move_head-requires-clause-places g c = places-of c.args.self.now.parts.items c.args.channel c.index_mut.result.now c.index_mut.result.now (own g (goal.at.move_head-requires-clause-places g c).After-index_mut) c.args.work.now c.requires.places
+pub move_head-requires : goal.move_head-requires
+move_head-requires g c =
+    let is = own g (goal.at.move_head-requires g c).After-index_mut in
+    record {
+      holds = (c.requires.stands.0, (c.requires.stands.1.parts c.args.channel c.index_mut.result.now is).holds);
+      places = places-of c.args.self.now.parts.items c.args.channel c.index_mut.result.now c.index_mut.result.now is c.args.work.now c.requires.places;
+    }
 
 pub returns-clause-enabled : goal.returns-clause-enabled
 returns-clause-enabled g c =
@@ -37,14 +35,6 @@ returns-clause-moves g c = λ made.
     let does = λ (b : Bool). PartMoves g.T.Transport.state g.T.Transport.may_refuse c.index_mut.result.now c.args.by c.args.work.now b c.move_head.new.self c.move_head.new.work in
     record { before = c.index_mut.result.now; after = c.move_head.new.self; was = own g (goal.at.returns-clause-moves g c).After-index_mut; becomes = refl; same = c.move_head.ensures.given.puts.same; done = subst does made c.move_head.ensures.moves }
 
-pub returns-clause-view : goal.returns-clause-view
-returns-clause-view g c = λ made.
-    give-view c.args.self.now.parts.items c.args.channel c.index_mut.result.now c.move_head.new.self (own g (goal.at.returns-clause-view g c).After-index_mut) g.S.Stage.meaning g.S.Stage.stands_after g.T.Transport.state c.requires.stands.0 c.requires.stands.1 c.args.work.now c.move_head.new.work c.move_head.ensures.given
-
-pub returns-clause-stands : goal.returns-clause-stands
-returns-clause-stands g c = λ world held.
-    give-stands c.args.self.now.parts.items c.args.channel c.index_mut.result.now c.move_head.new.self (own g (goal.at.returns-clause-stands g c).After-index_mut) g.S.Stage.meaning g.S.Stage.stands_after g.T.Transport.state world held c.args.work.now c.move_head.new.work c.move_head.ensures.given
-
-pub returns-clause-makes : goal.returns-clause-makes
-returns-clause-makes g c = λ world held.
-    give-makes c.args.self.now.parts.items c.args.channel c.index_mut.result.now c.move_head.new.self (own g (goal.at.returns-clause-makes g c).After-index_mut) g.S.Stage.meaning g.S.Stage.stands_after g.T.Transport.state world held c.args.work.now c.move_head.new.work c.move_head.ensures.given
+pub returns-clause-gives : goal.returns-clause-gives
+returns-clause-gives g c =
+    head-gives c.args.self.now.parts c.args.channel c.index_mut.result.now c.move_head.new.self (own g (goal.at.returns-clause-gives g c).After-index_mut) g.S.Stage.meaning g.S.Stage.stands_after g.T.Transport.state c.requires.stands c.args.work.now c.move_head.new.work c.move_head.ensures.given

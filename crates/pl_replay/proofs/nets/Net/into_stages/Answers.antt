@@ -5,7 +5,7 @@ use Rattle.pl_part.specs.declared.kept.KeptStage.{KeptStage}
 use Rattle.pl_part.specs.Keeping.{part_stages}
 use Rattle.pl_part.specs.Parts.{ChannelPartView}
 use Rattle.pl_replay.specs.NetStand.{NetStands}
-use Rattle.pl_replay.specs.Stages.{HasLaneStages}
+use Rattle.pl_replay.specs.LaneStages.{HasLaneStages}
 use Rattle.pl_replay.specs.declared.channels.Channels.{Channels}
 use Rattle.pl_replay.proofs.LaneStages.{net-stages}
 use Rattle.pl_replay.proofs.nets.Net.into_stages.Goals as goal

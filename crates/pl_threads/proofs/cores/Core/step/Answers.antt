@@ -35,7 +35,7 @@ returns-then-target-self-clause-holds g c =
     let stopped = c.in-Some.ensures.stopped in
     let nodes = c.args.self.now.nodes in
     let v = (g.N.OwnNodes.view_of nodes).lanes in
-    holds-on nodes c.next.new.self (taken_with v.taken c.in-Some.envelope) holds.at (subst (λ (s : StopsView). HasPlaces s v.places) (sym stopped) holds.places)
+    holds-on nodes c.next.new.self (taken_with v.taken c.in-Some.front) holds.at (subst (λ (s : StopsView). HasPlaces s v.places) (sym stopped) holds.places)
     (own-taken c.next.new.self holds.runs front stopped (sym c.target-target.ensures ∙ c.if-target-self.true)) (admits_front c.args.self.now.outboxes c.next.new.self holds.admits front stopped (omega arith))
     take.stands take.keeps take.taken take.placed take.makes (λ e. holds.why (sym take.refused ∙ e))
 
@@ -48,13 +48,13 @@ add-requires-clause-there g c =
 
 pub add-requires-clause-place : goal.add-requires-clause-place
 add-requires-clause-place g c =
-    subst (λ (k : ℕ). HasPlaces (stops_for c.args.self.now.outboxes.waiting (way_to c.args.self.now.outboxes k)) (c.in-Some.envelope.lane ∷ [])) (sym c.target-target.ensures)
+    subst (λ (k : ℕ). HasPlaces (stops_for c.args.self.now.outboxes.waiting (way_to c.args.self.now.outboxes k)) (c.in-Some.front.lane ∷ [])) (sym c.target-target.ensures)
     (away-placed c.next.new.self c.requires.holds.runs c.in-Some.ensures.front c.in-Some.ensures.stopped (λ e. c.if-target-self.false (c.target-target.ensures ∙ e)))
 
 pub add-requires-clause-next : goal.add-requires-clause-next
 add-requires-clause-next g c =
     let o = c.args.self.now.outboxes in
-    subst (λ (k : ℕ). is_cut o (way_to o k) c.in-Some.envelope.lane ≡ false → IsNext g.W.Named.world (reached o (way_to o k) c.in-Some.envelope.lane) c.in-Some.envelope) (sym c.target-target.ensures)
+    subst (λ (k : ℕ). is_cut o (way_to o k) c.in-Some.front.lane ≡ false → IsNext g.W.Named.world (reached o (way_to o k) c.in-Some.front.lane) c.in-Some.front) (sym c.target-target.ensures)
     (away-next c.next.new.self c.requires.holds.runs c.in-Some.ensures.front c.in-Some.ensures.stopped (λ e. c.if-target-self.false (c.target-target.ensures ∙ e)))
 
 -- it is closed
@@ -68,7 +68,7 @@ returns-in-Err-Closed-clause-holds g c =
     let refuse = c.refuse.ensures in
     let front = c.in-Some.ensures.front in
     let stopped = c.in-Some.ensures.stopped in
-    let adds = subst (λ (k : ℕ). Adds o (way_to o k) c.in-Some.envelope c.add.new.self) c.target-target.ensures c.add.ensures.adds in
+    let adds = subst (λ (k : ℕ). Adds o (way_to o k) c.in-Some.front c.add.new.self) c.target-target.ensures c.add.ensures.adds in
     let nodes = c.args.self.now.nodes in
     let v = (g.N.OwnNodes.view_of nodes).lanes in
     holds-on nodes c.next.new.self v.taken holds.at (subst (λ (s : StopsView). HasPlaces s v.places) (sym stopped) holds.places)
@@ -82,7 +82,7 @@ returns-in-Ok-clause-holds g c =
     let holds = c.requires.holds in
     let front = c.in-Some.ensures.front in
     let stopped = c.in-Some.ensures.stopped in
-    let adds = subst (λ (k : ℕ). Adds c.args.self.now.outboxes (way_to c.args.self.now.outboxes k) c.in-Some.envelope c.add.new.self) c.target-target.ensures c.add.ensures.adds in record {
+    let adds = subst (λ (k : ℕ). Adds c.args.self.now.outboxes (way_to c.args.self.now.outboxes k) c.in-Some.front c.add.new.self) c.target-target.ensures c.add.ensures.adds in record {
       stood = holds.stood;
       at = holds.at;
       places = subst (λ (s : StopsView). HasPlaces s (g.N.OwnNodes.view_of c.args.self.now.nodes).lanes.places) (sym stopped) holds.places;
@@ -96,7 +96,7 @@ returns-in-Ok-clause-holds g c =
 -- a direct call
 pub returns-then-target-self-clause-front : goal.returns-then-target-self-clause-front
 returns-then-target-self-clause-front g c = λ _. (
-  c.in-Some.envelope,
+  c.in-Some.front,
   record {
     rest = c.next.new.self;
     is_front = record { items = c.in-Some.ensures.front; stopped = c.in-Some.ensures.stopped; room = c.in-Some.ensures.room };
@@ -109,7 +109,7 @@ returns-then-target-self-clause-front g c = λ _. (
 pub returns-in-Err-Closed-clause-front : goal.returns-in-Err-Closed-clause-front
 returns-in-Err-Closed-clause-front g c = λ _.
     let o = c.args.self.now.outboxes in (
-      c.in-Some.envelope,
+      c.in-Some.front,
       record {
         rest = c.next.new.self;
         is_front = record { items = c.in-Some.ensures.front; stopped = c.in-Some.ensures.stopped; room = c.in-Some.ensures.room };
@@ -126,12 +126,12 @@ returns-in-Err-Closed-clause-front g c = λ _.
 -- it waits there
 pub returns-in-Ok-clause-front : goal.returns-in-Ok-clause-front
 returns-in-Ok-clause-front g c = λ _. (
-  c.in-Some.envelope,
+  c.in-Some.front,
   record {
     rest = c.next.new.self;
     is_front = record { items = c.in-Some.ensures.front; stopped = c.in-Some.ensures.stopped; room = c.in-Some.ensures.room };
     here = λ e. absurd (c.if-target-self.false (c.target-target.ensures ∙ e));
-    away = λ _. inl (subst (λ (k : ℕ). Comes c.args.self.now.outboxes (way_to c.args.self.now.outboxes k) c.in-Some.envelope c.add.new.self) c.target-target.ensures c.in-Ok.ensures.comes, refl, refl);
+    away = λ _. inl (subst (λ (k : ℕ). Comes c.args.self.now.outboxes (way_to c.args.self.now.outboxes k) c.in-Some.front c.add.new.self) c.target-target.ensures c.in-Ok.ensures.comes, refl, refl);
   },
 )
 

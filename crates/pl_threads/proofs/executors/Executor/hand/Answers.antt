@@ -12,7 +12,7 @@ invariant_of-self g c =
     let i = c.self.invariant in (holds-stay i.0 c.hand.ensures.stays, i.1, i.2, i.3, i.4, i.5, i.6)
 
 pub returns-clause-handed : goal.returns-clause-handed
-returns-clause-handed g c = subst (λ (v : ExecutorView g.row.N.Denot). IfSome c.hand.result (λ target. Sends v.outboxes target c.hand.new.self)) c.self.view_is c.hand.ensures.handed
+returns-clause-handed g c = subst (λ (v : ExecutorView g.row.N.Denot). IfSome c.hand.result (λ way. Sends v.outboxes way c.hand.new.self)) c.self.view_is c.hand.ensures.handed
 
 pub returns-clause-none : goal.returns-clause-none
 returns-clause-none g c = subst (λ (v : ExecutorView g.row.N.Denot). IfNone c.hand.result ((y : ℕ) → SameFor v.outboxes c.hand.new.self y)) c.self.view_is c.hand.ensures.none

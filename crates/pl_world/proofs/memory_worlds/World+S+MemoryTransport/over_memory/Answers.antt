@@ -16,15 +16,15 @@ pub returns-clause-pipelines : goal.returns-clause-pipelines
 returns-clause-pipelines g c =
     let made = c.of_thrifty.result in
     subst (λ (ps : List (PlacedView g.row.S.Denot)). IfOk made (λ w. map (λ (r : Recorded g.row.S.Denot MemoryTransportView). r.pipeline) w.channels ≡ ps)) c.from_vec.ensures
-    (has_pipelines c.from_vec.result c.from_vec-2.result c.from_vec-3.result c.args.executors made c.of_thrifty.ensures.channels c.of_thrifty.ensures.allowed)
+    (has_pipelines c.from_vec.result c.from_vec-2.result c.from_vec-3.result c.args.executors made c.of_thrifty.ensures.answers)
 
 pub returns-clause-inputs : goal.returns-clause-inputs
 returns-clause-inputs g c =
     let made = c.of_thrifty.result in
     subst (λ (plans : List ReadPlan). IfOk made (λ w. map (λ (r : Recorded g.row.S.Denot MemoryTransportView). r.input) w.channels ≡ plans)) (c.from_vec-2.ensures ∙ c.in_ok-inputs.ensures)
-    (has_inputs c.from_vec.result c.from_vec-2.result c.from_vec-3.result c.args.executors made c.of_thrifty.ensures.channels c.of_thrifty.ensures.allowed)
+    (has_inputs c.from_vec.result c.from_vec-2.result c.from_vec-3.result c.args.executors made c.of_thrifty.ensures.answers)
 
 pub returns-clause-transports : goal.returns-clause-transports
 returns-clause-transports g c =
     has_transports c.from_vec.result c.from_vec-2.result c.from_vec-3.result c.args.executors IsNew
-    (subst (All IsNew) (sym c.from_vec-3.ensures) c.in_ok-transports.ensures.each) c.of_thrifty.result c.of_thrifty.ensures.channels
+    (subst (All IsNew) (sym c.from_vec-3.ensures) c.in_ok-transports.ensures.each) c.of_thrifty.result c.of_thrifty.ensures.answers
