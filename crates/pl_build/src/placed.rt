@@ -67,11 +67,11 @@ impl<S: Stage> Placed<S> {
     }
 
     /// The hop of the turn: its index among the inbound handlers.
-    pub fn turn(&self) -> u16
+    pub fn turn(&self) -> usize
         ensures hop { result ≡ hop_of_turn S.meaning self.now.inbound }
         ensures within { result < length self.now.inbound }
     {
-        self.turn as u16
+        self.turn
     }
 
     /// The low mark, in bytes: with fewer pending the channel becomes writable again.

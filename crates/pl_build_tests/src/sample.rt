@@ -111,7 +111,7 @@ pub(crate) fn assert_numbers(rt: &impl Abort, chain: &[Small], want: &[u8]) {
 }
 
 /// So many handlers are inbound, and outbound, and the turn is at this hop.
-pub(crate) fn assert_counts(rt: &impl Abort, placed: &Placed<Small>, counts: (u16, u16, u16)) {
+pub(crate) fn assert_counts(rt: &impl Abort, placed: &Placed<Small>, counts: (u16, u16, usize)) {
     assert_eq!(rt;
         (placed.inbound(), placed.outbound(), placed.turn()),
         counts

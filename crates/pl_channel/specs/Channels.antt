@@ -14,8 +14,8 @@ use Rattle.pl_context.specs.ContextViews.{ContextView}
 use Rattle.pl_context.specs.OutputsViews.{OutputsView}
 use Rattle.pl_flow.specs.Flows.{Point, nowhere}
 use Rattle.pl_flow.specs.LanesViews.{LanesView}
-use Rattle.pl_flow.specs.declared.moves.HeadMove.{HeadMove}
-use Rattle.pl_flow.specs.declared.moves.HeadMove.TheVariants as head
+use Rattle.pl_flow.specs.declared.head_moves.HeadMove.{HeadMove}
+use Rattle.pl_flow.specs.declared.head_moves.HeadMove.TheVariants as head
 use Rattle.pl_head.specs.declared.inputs.ReadPlan.{ReadPlan}
 use Rattle.pl_head.specs.Marks.{Change}
 use Rattle.pl_head.specs.ReadSteps.{has_step}

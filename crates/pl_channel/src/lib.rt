@@ -8,4 +8,4 @@ mod reports;
 
 pub use lane_counts::{lane_count, origin_of, places_between};
 pub use recorded_parts::{whole_part, whole_parts};
-pub use reports::{into_report, report, standing};
+pub use reports::{into_report, report, stands};

@@ -57,7 +57,7 @@ pub fn whole_part<S: Stage, T: Transport>(
     let hop = pipeline.inbound() + 1 + pipeline.outbound();
     let low = pipeline.low();
     let high = pipeline.high();
-    let turn = pipeline.turn() as usize;
+    let turn = pipeline.turn();
     let (inbound, outbound, executors) = pipeline.into_parts();
     let head = Head::new(alloc, number, hop, input, transport, low, high);
     ChannelPart::whole(alloc, number, executors, inbound, outbound, turn, head)

@@ -34,7 +34,7 @@ pub fn report<T: Transport>(
 {
     let (bytes, writes) = head.copies(alloc)?;
     Ok(ChannelReport {
-        stands: standing(tail, head),
+        stands: stands(tail, head),
         tail: Sequence::from_vec(tail.record().to_vec(alloc)?),
         bytes,
         writes,
@@ -53,7 +53,7 @@ pub fn into_report<T: Transport>(
     ensures planned { IfOk result (λ report. (plan : Plan) (number : ℕ) (p : ChannelPlan) → EndsHold T.state false plan number p tail head
         → HeadKeepsPlan T.state p head → ReportsPlan p report) }
 {
-    let stands = standing(&tail, &head);
+    let stands = stands(&tail, &head);
     let (bytes, writes) = head.into_written(alloc)?;
     Ok(ChannelReport {
         stands,
@@ -64,7 +64,7 @@ pub fn into_report<T: Transport>(
 }
 
 /// How a channel stands, by its two ends: as its report has it.
-pub fn standing<T: Transport>(tail: &Tail, head: &Head<T>) -> Stands
+pub fn stands<T: Transport>(tail: &Tail, head: &Head<T>) -> Stands
     ensures { (ys zs : List Event) (sizes : List Change) → HeadStandsAfter T.state head.now ys zs sizes
         → result ≡ stands_by_ends (ends_of T.state tail.now head.now ys zs) }
 {

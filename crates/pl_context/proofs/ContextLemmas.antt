@@ -225,6 +225,7 @@ offers-made m xs x up down above below turned n e f g less =
 pub all-made : {start made more : List Event} → made ≡ start ++ more → start ≡ [] → made ≡ more
 all-made {more = more} is none = is ∙ ap (λ (t : List Event). t ++ more) none
 
+-- whatever the error is
 pub on_err : {T E P : Type 0} (r : Result T E) → P → OnErr r P
 on_err (Ok x) p = tt
 on_err (Err e) p = p

@@ -343,8 +343,7 @@ impl<S: Stage> Context<S> {
             &mut self.down_events,
             turned,
             outputs,
-        )?;
-        Ok(())
+        )
     }
 
     /// Fails, out of memory.
@@ -418,8 +417,9 @@ fn put_changed(
     ensures puts { OnOk result (PutsBoth (envelope.item ∷ []) (as_items below.old.items) up.old down.old outputs.old up.new down.new outputs.new) }
     ensures none { OnErr result (PutsNone (envelope.item ∷ []) (as_items below.old.items) up.old down.old outputs.old up.new down.new outputs.new) }
 {
-    let above = up.places(1);
-    match outputs.reserve(above + down.places(below.len())) {
+    let events_up = up.room_for(1);
+    let events_down = down.room_for(below.len());
+    match outputs.reserve(events_up + events_down) {
         Ok(()) => {
             up.hand_on(envelope, outputs);
             down.put_all(below, outputs);
@@ -452,9 +452,9 @@ fn put_made(
     ensures puts { OnOk result (PutsBoth (as_items above.old.items) (as_items below.old.items ++ end_after turned) up.old down.old outputs.old up.new down.new outputs.new) }
     ensures none { OnErr result (PutsNone (as_items above.old.items) (as_items below.old.items ++ end_after turned) up.old down.old outputs.old up.new down.new outputs.new) }
 {
-    let events_up = up.places(above.len());
-    let events_down = down.places(below.len());
-    let end = down.places(quits(turned));
+    let events_up = up.room_for(above.len());
+    let events_down = down.room_for(below.len());
+    let end = down.room_for(ends_of(turned));
     match outputs.reserve(events_up + events_down + end) {
         Ok(()) => {
             up.put_all(above, outputs);
@@ -480,8 +480,8 @@ fn last_item(standing: Standing) -> Item
     }
 }
 
-/// How many places the end of a stage that has quit takes.
-fn quits(turned: Turned) -> usize
+/// How many ends a stage puts out: one where it has quit.
+fn ends_of(turned: Turned) -> usize
     ensures { result ≡ length (end_after turned) }
 {
     match turned {

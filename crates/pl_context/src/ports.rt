@@ -145,8 +145,8 @@ impl Port {
         }
     }
 
-    /// How many places these events take on the lane.
-    pub(crate) fn places(&self, events: usize) -> usize
+    /// How much room so many events take on the lane, in items: none where it is not open.
+    pub(crate) fn room_for(&self, events: usize) -> usize
         ensures { result ≡ (if self.now.is_open then events else 0) }
     {
         if self.is_open { events } else { 0 }

@@ -32,7 +32,7 @@ use Rattle.pl_world.specs.PlanRules.{IsPlan, IsChannelPlan}
 use Rattle.pl_exec.specs.Lanes.{AreLaid, every_lane, is_lane}
 use Rattle.pl_exec.specs.Opening.{LaneTable, lanes_to, table_lanes, FitsLanes}
 use Rattle.pl_exec.specs.ExecutorNodes.{nobody, enters, entered_executor, lanes_here}
-use Rattle.pl_exec.specs.Sharing.{AreSharesOf, places_at}
+use Rattle.pl_exec.specs.Sharing.{AreSharesOf}
 use Rattle.pl_exec.proofs.LaneTablesEvery.{has-any, every-has, every-few}
 use Rattle.pl_exec.proofs.SharesStand.{IsPlacedShare, whole-of}
 
@@ -49,6 +49,10 @@ numbered-at f n i y at =
     let size = length-map-range_with_len f 0 n in
     let within = slice_get_within (map f (range_with_len 0 n)) i y at in
     sym (get_or_from_slice_get (map f (range_with_len 0 n)) i y y at) ∙ get_or-map-range_with_len f 0 n i i y (omega (arith, within, size)) (omega arith)
+
+-- by target how many lanes there are from an executor to so many
+abbrev pub places_at : {S T : Type 0} → List (ChannelPartView S T) → ℕ → ℕ → List ℕ
+places_at wholes count x = map (λ y. length (lanes_between wholes x y)) (range_with_len 0 count)
 
 -- A table of the lanes between so many executors: it has each that goes from one to another on its way, and no others.
 pub record IsTable {S T : Type 0} (wholes : List (ChannelPartView S T)) (count : ℕ) (lanes : LaneTable) : Type 0 where
@@ -150,7 +154,7 @@ module _ {S T : Type 0} (meaning : S → Meaning) (stands_after : S → List Eve
   same-lanes : data_lanes_of wholes ≡ data_lanes_of parts
   same-lanes = sym (joined-same (λ (p : ChannelPartView S T). part_lanes p) (λ (p : ChannelPartView S T). part_lanes p) parts wholes are.count (λ c share whole at there. (are.each c whole share there at).lanes))
 
-  places-there : (target count : ℕ) → slice_get (places_at wholes plan.executors x).targets target ≡ Some count → HasPlaces (no_stops count) (lanes_between wholes x target)
+  places-there : (target count : ℕ) → slice_get (places_at wholes plan.executors x) target ≡ Some count → HasPlaces (no_stops count) (lanes_between wholes x target)
   places-there target count at =
       let is = numbered-at (λ (y : ℕ). length (lanes_between wholes x y)) plan.executors target count at in
       places-start count (lanes_between wholes x target) (omega (arith, is))
@@ -185,7 +189,7 @@ module _ {S T : Type 0} (meaning : S → Meaning) (stands_after : S → List Eve
                 same-whole a b e = cc
 
     -- They fit its lanes, and have the places of this executor.
-    pub shares-fit : (heads : ℕ) → FitsLanes lanes x (record { executor = x; lanes = lanes_here meaning parts; heads = heads; was_refused = false }) (places_at wholes plan.executors x)
+    pub shares-fit : (heads : ℕ) → FitsLanes lanes x (record { executor = x; lanes = lanes_here meaning parts; heads = heads; was_refused = false }) (length (data_lanes_of wholes)) (places_at wholes plan.executors x)
     shares-fit heads = record {
       at = refl;
       unrefused = refl;

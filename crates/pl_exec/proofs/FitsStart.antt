@@ -1,9 +1,11 @@
 -- Nodes that are executors' shares of channels before any move fit the lanes between them.
+use Rattle.std.specs.Global.{Vec}
 use Rattle.std.proofs.Common.{◌≡◌, ℕ, ◌<◌, ◌≤◌, List, Option, Some, length, map, slice_get, ap, sym, ◌∙◌, subst, arith, true}
 use Rattle.std.specs.List.{range_with_len}
+use Rattle.std.specs.Option.{option_map}
 use Rattle.std.proofs.lemmas.List.{length-map}
 use Rattle.std.proofs.lemmas.List.FromFn.{length-map-range_with_len}
-use Rattle.std.proofs.lemmas.Option.{slice_get_within}
+use Rattle.std.proofs.lemmas.Option.{slice_get-map, slice_get_within}
 use Rattle.pl_event.specs.declared.events.Event.{Event}
 use Rattle.pl_event.specs.Meaning.{Meaning}
 use Rattle.pl_event.specs.Worlds.{World}
@@ -11,6 +13,7 @@ use Rattle.pl_event.proofs.Lists.{All-from-at, at-index}
 use Rattle.pl_build.specs.declared.limits.TheConstants.{MAX_EXECUTORS}
 use Rattle.pl_head.specs.Transports.{TransportState}
 use Rattle.pl_part.specs.Parts.{ChannelPartView}
+use Rattle.pl_channel.specs.Channels.{data_lanes_of}
 use Rattle.pl_channel.specs.Lanes.{world_of}
 use Rattle.pl_channel.specs.WholeParts.{AreWholeParts}
 use Rattle.pl_channel.specs.PlanStand.{PartsKeepPlan}
@@ -22,12 +25,11 @@ use Rattle.pl_threads.specs.NodesViews.{OwnNodesView}
 use Rattle.pl_exec.specs.declared.nodes.ExecutorNodes.{ExecutorNodes}
 use Rattle.pl_exec.specs.Lanes.{AreLaid}
 use Rattle.pl_exec.specs.ExecutorNodes.{NodesStand, channel_parts, lanes_here, own_view}
-use Rattle.pl_exec.specs.Opening.{LaneTable, PlacesView, FitsLanes}
+use Rattle.pl_exec.specs.Opening.{LaneTable, FitAll, FitsLanes}
 use Rattle.pl_exec.specs.SessionWords.{AreNewlySeated, ChannelNames, SeatsView}
-use Rattle.pl_exec.specs.Sharing.{AreDealt, AreSharesOf, AreShared, HasShares, channels_on, places_at, places_of}
-use Rattle.pl_exec.specs.Starting.{FitExecutors}
+use Rattle.pl_exec.specs.Sharing.{AreDealt, AreSharesOf, AreShared, HasShares, channels_on, rows_in}
 use Rattle.pl_exec.specs.Telling.{AreSeated, ExecutorStands, channel_seats, plan_marks}
-use Rattle.pl_exec.proofs.Fits.{IsTable, numbered-at, shares-fit}
+use Rattle.pl_exec.proofs.Fits.{IsTable, numbered-at, places_at, shares-fit}
 use Rattle.pl_exec.proofs.SeatLemmas.{all-seated}
 use Rattle.pl_exec.proofs.SharesHere.{dealt-by-channel, here-in-order, shares-by-channel}
 use Rattle.pl_exec.proofs.SharesStand.{shares-stand, shares-tell}
@@ -63,20 +65,21 @@ module _ {S T : Type 0} (meaning : S → Meaning) (stands_after : S → List Eve
         told = shares-tell meaning stands_after state plan rs planned wholes placed x (channel_parts plan nodes) are heads (channel_seats plan nodes) (λ c s at. (new.each c s at).unused) dealt size;
       }
 
-      fits : AreLaid wholes → FitsLanes lanes x (own_view plan meaning nodes) (places_at wholes plan.executors x)
-      fits laid = subst (λ (v : OwnNodesView). FitsLanes lanes x v (places_at wholes plan.executors x))
-          (λ i. record { executor = sym has.number i; lanes = lanes_here meaning (channel_parts plan nodes); heads = length nodes.own.items; was_refused = sym has.unrefused i })
-          (shares-fit meaning stands_after state plan rs planned wholes placed ruled x (channel_parts plan nodes) are laid lanes table below (length nodes.own.items))
+      fits : AreLaid wholes → FitsLanes lanes x (own_view plan meaning nodes) (length (data_lanes_of wholes)) (places_at wholes plan.executors x)
+      fits laid = subst (λ (v : OwnNodesView). FitsLanes lanes x v (length (data_lanes_of wholes)) (places_at wholes plan.executors x))
+          (λ i. record { executor = sym has.number i; lanes = lanes_here meaning (channel_parts plan nodes); heads = length nodes.heads.items; was_refused = sym has.unrefused i })
+          (shares-fit meaning stands_after state plan rs planned wholes placed ruled x (channel_parts plan nodes) are laid lanes table below (length nodes.heads.items))
 
-    pub fit-all : AreLaid wholes → (rows : List (List ℕ)) (nodes : List (ExecutorNodes S T)) (places : List PlacesView) → rows ≡ map (channels_on wholes) (range_with_len 0 plan.executors)
-        → AreShared meaning stands_after state wholes words heads rows nodes → places ≡ places_of wholes plan.executors → FitExecutors world plan meaning stands_after state lanes nodes places
+    pub fit-all : AreLaid wholes → (rows : List (List ℕ)) (nodes : List (ExecutorNodes S T)) (places : List (Vec ℕ)) → rows ≡ map (channels_on wholes) (range_with_len 0 plan.executors)
+        → AreShared meaning stands_after state wholes words heads rows nodes → rows_in places ≡ map (places_at wholes plan.executors) (range_with_len 0 plan.executors) → FitAll (own_view plan meaning) (ExecutorStands world plan meaning stands_after state) lanes nodes (length (data_lanes_of wholes)) places
     fit-all laid rows nodes places known shared reserved = record {
       nodes_count = count ∙ sym table.size;
-      places_count = ap length reserved ∙ length-map-range_with_len (places_at wholes plan.executors) 0 plan.executors ∙ sym table.size;
+      places_count = sym (length-map places (λ (row : Vec ℕ). row.items)) ∙ ap length reserved ∙ length-map-range_with_len (places_at wholes plan.executors) 0 plan.executors ∙ sym table.size;
       stand = All-from-at (ExecutorStands world plan meaning stands_after state) nodes (λ x part at. stand x (below x part at) part (has x part at));
-      each = λ x part own at-part at-own.
-          let is = numbered-at (places_at wholes plan.executors) plan.executors x own (ap (λ (l : List PlacesView). slice_get l x) (sym reserved) ∙ at-own) in
-          subst (λ (p : PlacesView). FitsLanes lanes x (own_view plan meaning part) p) (sym is) (fits x (below x part at-part) part (has x part at-part) laid);
+      each = λ x part row at-part at-row.
+          let is = numbered-at (places_at wholes plan.executors) plan.executors x row.items
+          (ap (λ (l : List (List ℕ)). slice_get l x) (sym reserved) ∙ slice_get-map (λ (r : Vec ℕ). r.items) places x ∙ ap (option_map (λ (r : Vec ℕ). r.items)) at-row) in
+          subst (λ (l : List ℕ). FitsLanes lanes x (own_view plan meaning part) (length (data_lanes_of wholes)) l) (sym is) (fits x (below x part at-part) part (has x part at-part) laid);
     }
       where
         count : length nodes ≡ plan.executors

@@ -267,12 +267,12 @@ module _ {S T : Type 0} (plan : Plan) (n : ExecutorNodes S T) (order : AreInOrde
   position-read c v within read = read ∙ ap (λ (l : List ℕ). get_or l c v) order.positions ∙ get_or-map-range_with_len (row_position here) 0 (length plan.channels) c c v within (omega arith)
 
   -- the channel of a head at a position
-  pub own-at : (at k : ℕ) → at < length n.own.items → k ≡ get_or n.own.items at k → get_or (own_channels n) at 0 ≡ get_or here k 0
-  own-at at k there read = get_or-map (λ (j : ℕ). get_or here j 0) n.own.items at k 0 there ∙ ap (λ (j : ℕ). get_or here j 0) (sym read)
+  pub own-at : (at k : ℕ) → at < length n.heads.items → k ≡ get_or n.heads.items at k → get_or (own_channels n) at 0 ≡ get_or here k 0
+  own-at at k there read = get_or-map (λ (j : ℕ). get_or here j 0) n.heads.items at k 0 there ∙ ap (λ (j : ℕ). get_or here j 0) (sym read)
 
-  pub own-slot : (at k : ℕ) → at < length n.own.items → k ≡ get_or n.own.items at k → slice_get (own_channels n) at ≡ Some (get_or here k 0)
+  pub own-slot : (at k : ℕ) → at < length n.heads.items → k ≡ get_or n.heads.items at k → slice_get (own_channels n) at ≡ Some (get_or here k 0)
   own-slot at k there read =
-      slice_get-get_or (own_channels n) at 0 (let size = length-map n.own.items (λ (j : ℕ). get_or here j 0) in omega (arith, there, size))
+      slice_get-get_or (own_channels n) at 0 (let size = length-map n.heads.items (λ (j : ℕ). get_or here j 0) in omega (arith, there, size))
       ∙ ap (λ (c : ℕ). Some c) (own-at at k there read)
 
   pub positions-count : length n.positions.items ≡ length plan.channels

@@ -1,11 +1,13 @@
 -- What is true of channels that are ready to start.
 use Rattle.std.proofs.Common.{◌≡◌, ℕ, suc, ◌+◌, ◌<◌, ◌≤◌, ◌^◌, List, [], ◌∷◌, length, map, slice_get, Option, Some, refl, ap, ap₂, sym, ◌∙◌, subst, arith, true}
+use Rattle.std.specs.Global.{Vec}
 use Rattle.std.specs.Prelude.{All}
 use Rattle.std.specs.List.{AllZip, range_with_len}
 use Rattle.std.specs.Option.{option_map}
 use Rattle.std.proofs.lemmas.Option.{slice_get-map}
 use Rattle.std.proofs.lemmas.List.{length-map}
-use Rattle.pl_build.specs.declared.limits.TheConstants.{MAX_HANDLERS}
+use Rattle.pl_build.specs.declared.limits.TheConstants.{MAX_EXECUTORS, MAX_HANDLERS}
+use Rattle.pl_channel.specs.Channels.{data_lanes_of}
 use Rattle.pl_channel.specs.Lanes.{world_of}
 use Rattle.pl_event.specs.declared.events.Event.{Event}
 use Rattle.pl_event.specs.Meaning.{Meaning}
@@ -17,17 +19,32 @@ use Rattle.pl_head.specs.Transports.{TransportState}
 use Rattle.pl_part.specs.Parts.{ChannelPartView}
 use Rattle.pl_channel.specs.Ways.{ArePlaceable}
 use Rattle.pl_channel.proofs.WholeParts.{placeable, recorded-at}
+use Rattle.pl_channel.specs.WholeParts.{AreWholeParts}
+use Rattle.pl_world.specs.declared.limits.TheConstants.{MAX_CAPACITY, MAX_CHANNELS}
+use Rattle.pl_world.specs.declared.session.Recorded.{Recorded}
 use Rattle.pl_world.specs.Plans.{Plan, channel_planned}
+use Rattle.pl_world.specs.PlanRules.{IsPlan, IsSmallPlan}
 use Rattle.pl_exec.specs.declared.nodes.ExecutorNodes.{ExecutorNodes}
+use Rattle.pl_exec.specs.ExecutorNodes.{own_view}
 use Rattle.pl_exec.specs.Lanes.{AreLaid, lane_table}
-use Rattle.pl_exec.specs.Opening.{LaneTable, PlacesView, IsSquare, CanOpen, CanOpenAll, IsFirst}
+use Rattle.pl_exec.specs.Opening.{LaneTable, FitAll, IsSquare, CanOpen, CanOpenAll, IsFirst}
 use Rattle.pl_exec.specs.SessionWords.{AreNewlySeated, ChannelNames, SeatsView}
-use Rattle.pl_exec.specs.Sharing.{AreShared, channels_on, places_of}
-use Rattle.pl_exec.specs.Starting.{AreReady, FitExecutors}
-use Rattle.pl_exec.specs.Telling.{plan_marks}
-use Rattle.pl_exec.proofs.Fits.{IsTable}
+use Rattle.pl_exec.specs.Sharing.{AreShared, channels_on, rows_in}
+use Rattle.pl_exec.specs.Telling.{ExecutorStands, plan_marks}
+use Rattle.pl_exec.proofs.Fits.{IsTable, places_at}
 use Rattle.pl_exec.proofs.FitsStart.{fit-all}
 use Rattle.pl_exec.proofs.LaneTables.{table-square, table-length, table-open, crossing-there, entering-crosses}
+
+-- These are the channels of a plan within the limits, placed, and before any move.
+pub record AreReady {S T : Type 0} (meaning : S → Meaning) (stands_after : S → List Event → Type 0) (state : T → TransportState) (plan : Plan) (parts : List (ChannelPartView S T)) : Type 0 where
+  pub recorded : List (Recorded S T)
+  pub planned : plan.channels ≡ map (channel_planned meaning state) recorded
+  pub placed : AreWholeParts meaning stands_after state recorded parts
+  pub ruled : IsPlan plan
+  pub small : IsSmallPlan plan
+  pub channels : length recorded ≤ MAX_CHANNELS
+  pub executors : plan.executors ≤ MAX_EXECUTORS
+  pub capacity : plan.capacity ≤ MAX_CAPACITY
 
 module _ {S T : Type 0} (meaning : S → Meaning) (stands_after : S → List Event → Type 0) (state : T → TransportState) (plan : Plan) (parts : List (ChannelPartView S T)) (ready : AreReady meaning stands_after state plan parts) where
   pub ready-count : length parts ≡ length plan.channels
@@ -102,8 +119,8 @@ module _ {S T : Type 0} (meaning : S → Meaning) (stands_after : S → List Eve
       (record { size = table-length parts count; crossing = crossing-there parts count; entering = entering-crosses parts count })
 
   pub ready-fit : (world : World) → world ≡ world_of true plan → (words : List ChannelNames) (heads : List (Option SeatsView)) → AreNewlySeated words (map plan_marks plan.channels) heads
-      → (rows : List (List ℕ)) (nodes : List (ExecutorNodes S T)) (places : List PlacesView) → rows ≡ map (channels_on parts) (range_with_len 0 count) → AreShared meaning stands_after state parts words heads rows nodes → places ≡ places_of parts count
-      → FitExecutors world plan meaning stands_after state lanes nodes places
+      → (rows : List (List ℕ)) (nodes : List (ExecutorNodes S T)) (places : List (Vec ℕ)) → rows ≡ map (channels_on parts) (range_with_len 0 count) → AreShared meaning stands_after state parts words heads rows nodes
+      → rows_in places ≡ map (places_at parts count) (range_with_len 0 count) → FitAll (own_view plan meaning) (ExecutorStands world plan meaning stands_after state) lanes nodes (length (data_lanes_of parts)) places
   ready-fit world is_world words heads new rows nodes places known shared reserved =
       fit-all meaning stands_after state world plan is_world ready.recorded ready.planned parts ready.placed ready.ruled ready.executors lanes table-is words heads new
-      (ready-laid meaning stands_after state plan parts ready) rows nodes places (known ∙ ap (λ (n : ℕ). map (channels_on parts) (range_with_len 0 n)) all) shared (reserved ∙ ap (places_of parts) all)
+      (ready-laid meaning stands_after state plan parts ready) rows nodes places (known ∙ ap (λ (n : ℕ). map (channels_on parts) (range_with_len 0 n)) all) shared (reserved ∙ ap (λ (n : ℕ). map (places_at parts n) (range_with_len 0 n)) all)

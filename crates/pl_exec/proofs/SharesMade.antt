@@ -5,7 +5,6 @@ use Rattle.std.specs.List.{range_with_len}
 use Rattle.std.proofs.lemmas.Bool.{both_ways, cases_Bool, cases_eq, eqb-true, false≢true, ne_eqb}
 use Rattle.std.proofs.lemmas.List.{length-set, length_push}
 use Rattle.std.proofs.lemmas.Option.{none-some, slice_get_within, same_Some}
-use Rattle.std.proofs.lemmas.Simd.{map-map}
 use Rattle.pl_event.specs.declared.events.Event.{Event}
 use Rattle.pl_event.specs.Meaning.{Meaning}
 use Rattle.pl_event.proofs.Lists.{at-index, at_set_same, at_set_other, slice_get-push}
@@ -14,14 +13,11 @@ use Rattle.pl_head.specs.Transports.{TransportState}
 use Rattle.pl_part.specs.Parts.{ChannelPartView, head_hop}
 use Rattle.pl_part.specs.Shares.{IsShare, IsShareBy, IsShareOf, executor_of, only_if}
 use Rattle.pl_part.proofs.ShareLemmas.{share-is-of, share-within}
-use Rattle.pl_channel.specs.Channels.{data_lanes_of}
-use Rattle.pl_channel.specs.Ways.{lanes_between}
 use Rattle.pl_exec.specs.declared.nodes.ExecutorNodes.{ExecutorNodes}
-use Rattle.pl_exec.specs.Opening.{PlacesView}
 use Rattle.pl_exec.specs.ChannelRows.{IsChannelRow, row_position}
 use Rattle.pl_exec.specs.ExecutorNodes.{AreInOrder, heads_of}
 use Rattle.pl_exec.specs.SessionWords.{ChannelNames, SeatsView}
-use Rattle.pl_exec.specs.Sharing.{AreRests, AreShared, Gets, HasShare, HasShares, IsRestOf, places_of}
+use Rattle.pl_exec.specs.Sharing.{AreRests, AreShared, Gets, HasShare, HasShares, IsRestOf}
 use Rattle.pl_exec.proofs.HeadLists.{heads-more}
 use Rattle.pl_exec.proofs.ListSteps.{both-push}
 
@@ -127,7 +123,7 @@ module _ {S T : Type 0} (meaning : S → Meaning) (stands_after : S → List Eve
     pub parts : length nodes.parts.items ≡ k
     pub seats : length nodes.seats.items ≡ k
     pub each : (j : ℕ) (share : ChannelPartView S T) (slot : Option SeatsView) → slice_get nodes.parts.items j ≡ Some share → slice_get nodes.seats.items j ≡ Some slot → HasShare meaning stands_after state wholes words heads x (get_or row j 0) share slot
-    pub own : nodes.own.items ≡ heads_of nodes.parts.items
+    pub own : nodes.heads.items ≡ heads_of nodes.parts.items
 
   pub next-share : (k : ℕ) (old new : ExecutorNodes S T) (whole share : ChannelPartView S T) (slot : Option SeatsView) → HasFirst k old → Gets old share slot new → slice_get wholes (get_or row k 0) ≡ Some whole → slice_get heads (get_or row k 0) ≡ Some slot
       → IsShareOf meaning stands_after state (λ e. e == x) whole share → HasFirst (k + 1) new
@@ -282,23 +278,3 @@ module _ {S T : Type 0} (meaning : S → Meaning) (stands_after : S → List Eve
     count = length_push all new ∙ ap (λ (k : ℕ). k + 1) so_far.count ∙ sym (length_push rows row);
     each = both-push (λ x nodes r. HasShares meaning stands_after state wholes words heads x r nodes) all rows new row so_far.count so_far.each has;
   })
-
--- ---- the places
-
-abbrev reserved : ℕ → List ℕ → PlacesView
-reserved work targets = record { work = work; targets = targets }
-
--- those of executors, with so many on each work list: by rows, each for what waits for each target
-module _ {V : Type 0} (targets : V → List ℕ) (work : ℕ) where
-  abbrev pub reserved_by : V → PlacesView
-  reserved_by row = reserved work (targets row)
-
-  -- all are left
-  pub places-left : {S T : Type 0} (wholes : List (ChannelPartView S T)) (count : ℕ) (table : List V) → work ≡ length (data_lanes_of wholes)
-      → map targets table ≡ map (λ x. map (λ y. length (lanes_between wholes x y)) (range_with_len 0 count)) (range_with_len 0 count) → map reserved_by table ≡ places_of wholes count
-  places-left wholes count table lanes are =
-      let row = λ (x : ℕ). map (λ y. length (lanes_between wholes x y)) (range_with_len 0 count) in
-      sym (map-map (reserved work) targets table)
-      ∙ ap (λ (rows : List (List ℕ)). map (reserved work) rows) are
-      ∙ map-map (reserved work) row (range_with_len 0 count)
-      ∙ ap (λ (n : ℕ). map (λ x. reserved n (row x)) (range_with_len 0 count)) lanes

@@ -1,4 +1,5 @@
 -- An executor before its first turn: what its nodes, its outboxes and its own queue have come to.
+use Rattle.std.specs.Global.{Vec}
 use Rattle.std.proofs.Common.{◌≡◌, ◌≢◌, ℕ, ◌-◌, ◌<◌, ◌^◌, true, false, List, [], ◌∷◌, length, map, get_or, slice_get, Option, Some, None, refl, ap, sym, ◌∙◌, subst, ⊎_elim, arith}
 use Rattle.std.specs.Option.{option_map, option_map_or}
 use Rattle.std.proofs.lemmas.Bool.{cases_eq, false≢true}
@@ -23,7 +24,7 @@ use Rattle.pl_outbox.specs.OutboxViews.{OutboxView, OutboxesView, waits_for, sen
 use Rattle.pl_threads.specs.NodesViews.{OwnNodesView}
 use Rattle.pl_threads.specs.Running.{RunsOn, IsTaking}
 use Rattle.pl_threads.proofs.RunLemmas.{runs-start}
-use Rattle.pl_exec.specs.Opening.{lanes_to, table_lanes, is_way, InboxView, OwnView, ColumnView, PlacesView, WaysView, HasWays, CanDealAll, Starts, CanStart}
+use Rattle.pl_exec.specs.Opening.{lanes_to, table_lanes, is_way, InboxView, OwnView, ColumnView, WaysView, HasWays, CanDealAll, Starts, CanStart}
 use Rattle.pl_exec.proofs.LaneLemmas.{sent_at-fresh, next_of-new}
 use Rattle.pl_exec.proofs.Ways.{own-way, lanes-way}
 
@@ -31,8 +32,8 @@ found-or : {A B : Type 0} (f : A → B) (found : Option A) (d b : B) → option_
 found-or f None d b is = absurd (none-some b is)
 found-or f (Some a) d b is = same_Some (f a) b is
 
-module _ {M S T N : Type 0} (ends : MailboxEnds M S T) (view_of : N → OwnNodesView) (stands : N → Type 0) (inboxes : List (InboxView M)) (me : ℕ) (own : OwnView T) (its_ways : WaysView) (nodes : N) (places : PlacesView)
-    (s : Starts ends view_of stands inboxes me own its_ways nodes places) (here : me < length inboxes) where
+module _ {M S T N : Type 0} (ends : MailboxEnds M S T) (view_of : N → OwnNodesView) (stands : N → Type 0) (inboxes : List (InboxView M)) (me : ℕ) (own : OwnView T) (its_ways : WaysView) (nodes : N) (data_lanes : ℕ)
+    (s : Starts ends view_of stands inboxes me own its_ways nodes data_lanes) (here : me < length inboxes) where
   -- the taker has taken nothing, and what it is to take is for these nodes
   pub starts-taking : IsTaking me (view_of nodes).lanes (ends.takes_of own.taker).counts
   starts-taking l n next =
@@ -42,8 +43,8 @@ module _ {M S T N : Type 0} (ends : MailboxEnds M S T) (view_of : N → OwnNodes
       let enters = s.fits.entering l new.0 in
       (enters.0, enters.1, enters.2 ∙ new.1)
 
-  module _ (world : World) (o : OutboxesView) (outboxes : o.outboxes ≡ its_ways.outboxes) (ways : o.ways ≡ its_ways.numbers) (waits : (y : ℕ) → waits_for o y ≡ []) (reserved : map (λ b. b.stopped) o.waiting.targets ≡ map no_stops its_ways.places) where
-    abbrev has : HasWays s.lanes me places.targets (length s.lanes) its_ways
+  module _ (world : World) (o : OutboxesView) (outboxes : o.outboxes ≡ its_ways.outboxes) (ways : o.ways ≡ its_ways.ways) (waits : (y : ℕ) → waits_for o y ≡ []) (reserved : map (λ b. b.stopped) o.waiting.targets ≡ map no_stops its_ways.places) where
+    abbrev has : HasWays s.lanes me s.places (length s.lanes) its_ways
     has = s.ways
 
     count : length o.outboxes ≡ length has.targets
@@ -58,7 +59,7 @@ module _ {M S T N : Type 0} (ends : MailboxEnds M S T) (view_of : N → OwnNodes
     way-for l written =
         let y = (view_of nodes).lanes.target l in
         let way = has.ways y (s.fits.there l written) (is-way y l written refl) in
-        ap (λ (k : ℕ). slice_get has.targets k) (ap (λ (ws : List ℕ). get_or ws y (2 ^ 16 - 1)) ways ∙ get_or_from_slice_get its_ways.numbers y way.0 (2 ^ 16 - 1) way.1) ∙ way.2
+        ap (λ (k : ℕ). slice_get has.targets k) (ap (λ (ws : List ℕ). get_or ws y (2 ^ 16 - 1)) ways ∙ get_or_from_slice_get its_ways.ways y way.0 (2 ^ 16 - 1) way.1) ∙ way.2
       where
         has-some : (l : Lane) (lanes : List Lane) → has_lane l lanes ≡ true → 0 < length lanes
         has-some l [] h = absurd (false≢true h)
@@ -115,32 +116,33 @@ module _ {M S T N : Type 0} (ends : MailboxEnds M S T) (view_of : N → OwnNodes
         (λ l written away. way-there l written)
         hops placed-first among-first
 
-module _ {M S T N : Type 0} (ends : MailboxEnds M S T) (view_of : N → OwnNodesView) (stands : N → Type 0) (inboxes : List (InboxView M)) (all : List (OwnView T)) (columns : List (ColumnView S)) (nodes : List N) (places : List PlacesView)
-    (can : CanStart ends view_of stands inboxes all columns nodes places) where
+module _ {M S T N : Type 0} (ends : MailboxEnds M S T) (view_of : N → OwnNodesView) (stands : N → Type 0) (inboxes : List (InboxView M)) (all : List (OwnView T)) (columns : List (ColumnView S)) (nodes : List N) (data_lanes : ℕ) (places : List (Vec ℕ))
+    (can : CanStart ends view_of stands inboxes all columns nodes data_lanes places) where
   -- the columns can be given to them
   pub start-deals : CanDealAll ends can.lanes inboxes columns places
   start-deals = record {
     placed = record {
       square = can.square;
       count = can.fit.places_count;
-      targets = All-from-at (λ (p : PlacesView). length p.targets ≡ length can.lanes) places (λ n p at.
-          let within = slice_get_within places n p at in
+      targets = All-from-at (λ (row : Vec ℕ). length row.items ≡ length can.lanes) places (λ n row at.
+          let within = slice_get_within places n row at in
           let part = at-index nodes n (let some = can.fit.nodes_count in let size = can.fit.places_count in omega (arith, within, some, size)) in
-          (can.fit.each n part.0 p part.1 at).targets);
+          (can.fit.each n part.0 row part.1 at).targets);
     };
     inboxes_count = can.count;
     whole = can.opened.whole;
   }
 
   -- each that can start does, by its ways
-  pub each-starts : (number : ℕ) (own : OwnView T) (part : N) (reserved : PlacesView) (v : WaysView) → slice_get all number ≡ Some own → slice_get nodes number ≡ Some part → slice_get places number ≡ Some reserved
-      → HasWays can.lanes number reserved.targets (length can.lanes) v → Starts ends view_of stands inboxes number own v part reserved
-  each-starts number own part reserved v at-own at-nodes at-places has = record {
+  pub each-starts : (number : ℕ) (own : OwnView T) (part : N) (row : Vec ℕ) (v : WaysView) → slice_get all number ≡ Some own → slice_get nodes number ≡ Some part → slice_get places number ≡ Some row
+      → HasWays can.lanes number row.items (length can.lanes) v → Starts ends view_of stands inboxes number own v part data_lanes
+  each-starts number own part row v at-own at-nodes at-places has = record {
     lanes = can.lanes;
+    places = row.items;
     square = can.square;
     count = can.count;
     own = λ inbox there. can.opened.own number inbox own there at-own;
     ways = has;
     stood = All-at stands nodes number part can.fit.stand at-nodes;
-    fits = can.fit.each number part reserved at-nodes at-places;
+    fits = can.fit.each number part row at-nodes at-places;
   }

@@ -111,26 +111,26 @@ module _ {S T : Type 0} (plan : Plan) (mid now : ExecutorNodes S T) (c : ℕ) (t
 
   -- they stand where they did so but for what is told
   pub stands-told : (world : World) (meaning : S → Meaning) (stands_after : S → List Event → Type 0) (state : T → TransportState) → world ≡ world_of true plan
-      → NodesStand world plan meaning stands_after state mid.number mid.was_refused ps → mid.own.items ≡ heads_of mid.parts.items
+      → NodesStand world plan meaning stands_after state mid.number mid.was_refused ps → mid.heads.items ≡ heads_of mid.parts.items
       → AreSeated now.words.now plan (channel_seats plan now) → ((x : ℕ) → TellsAt (channel_seats plan now) (channel_parts plan now) x) → ExecutorStands world plan meaning stands_after state now
   stands-told world meaning stands_after state is_world nodes own seated tells = record {
     is_world = is_world;
     in_order = told.in_order;
     nodes = subst (λ (m : ExecutorNodes S T). NodesStand world plan meaning stands_after state m.number m.was_refused (channel_parts plan now)) (sym told.same)
         (told-stands ps c (channel_parts plan now) told-from world plan meaning stands_after state mid.number mid.was_refused nodes);
-    own = ap (λ (m : ExecutorNodes S T). m.own.items) told.same ∙ own ∙ sym told.own;
+    own = ap (λ (m : ExecutorNodes S T). m.heads.items) told.same ∙ own ∙ sym told.own;
     seated = seated;
     told = tells;
   }
 
   -- and are seen so by their executor
   abbrev seen : (S → Meaning) → OwnNodesView
-  seen meaning = record { executor = mid.number; lanes = lanes_here meaning ps; heads = length mid.own.items; was_refused = mid.was_refused }
+  seen meaning = record { executor = mid.number; lanes = lanes_here meaning ps; heads = length mid.heads.items; was_refused = mid.was_refused }
 
   pub view-told : (meaning : S → Meaning) → own_view plan meaning now ≡ seen meaning
   view-told meaning =
       let lanes = told-lanes ps c (channel_parts plan now) told-from meaning in
-      λ i. record { executor = (told.same i).number; lanes = lanes i; heads = length (told.same i).own.items; was_refused = (told.same i).was_refused }
+      λ i. record { executor = (told.same i).number; lanes = lanes i; heads = length (told.same i).heads.items; was_refused = (told.same i).was_refused }
 
   -- so a call that they made before is as it was
   module _ (meaning : S → Meaning) (before : ExecutorNodes S T) where

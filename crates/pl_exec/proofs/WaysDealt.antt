@@ -1,5 +1,6 @@
 -- The ways of executors, as one column after another is given to them.
 use Rattle.std.proofs.Common.{◌≡◌, ◌≢◌, ℕ, zero, suc, ◌+◌, ◌-◌, ◌^◌, ◌<◌, ◌≤◌, true, false, List, [], ◌∷◌, ◌++◌, drop, length, map, get_or, set, slice_get, Some, refl, ap, sym, ◌∙◌, subst, ⊎_elim, arith, length-append}
+use Rattle.std.specs.Global.{Vec}
 use Rattle.std.specs.Prelude.{All}
 use Rattle.std.proofs.lemmas.Bool.{cases_eq, cases_lt, false≢true}
 use Rattle.std.proofs.lemmas.List.{get_or-set_other, get_or-set_same, length-map, length-replicate, length-set, nil_from_length}
@@ -15,7 +16,7 @@ use Rattle.pl_outbox.specs.OutboxViews.{OutboxView, IsNew}
 use Rattle.pl_exec.proofs.Columns.{square-at}
 use Rattle.pl_exec.proofs.ListSteps.{both-push, cons-head, nil-cons}
 use Rattle.pl_exec.proofs.Ways.{IsNextWay, next-way, no-more}
-use Rattle.pl_exec.specs.Opening.{LaneTable, lanes_to, table_lanes, InboxView, ColumnView, PlacesView, Way, is_way, ways_from, IsColumn, WaysView, no_ways, IsFresh, HasWays, HaveWays, HaveTargets, CanDeal, CanDealAll}
+use Rattle.pl_exec.specs.Opening.{LaneTable, lanes_to, table_lanes, InboxView, ColumnView, Way, is_way, ways_from, IsColumn, WaysView, no_ways, IsFresh, HasWays, HaveWays, HaveTargets, CanDeal, CanDealAll}
 
 -- ---- lists
 
@@ -43,7 +44,7 @@ module _ (lanes : LaneTable) (number : ℕ) (reserved : List ℕ) where
   none-yet count v all is = record {
     targets = [];
     few = omega arith;
-    numbers_count = ap (λ (w : WaysView). length w.numbers) is ∙ length-replicate count (2 ^ 16 - 1) ∙ all;
+    ways_count = ap (λ (w : WaysView). length w.ways) is ∙ length-replicate count (2 ^ 16 - 1) ∙ all;
     outboxes_count = sym (ap (λ (w : WaysView). length w.outboxes) is);
     places_count = sym (ap (λ (w : WaysView). length w.places) is);
     ways = λ target within way. absurd (omega (arith, within));
@@ -56,7 +57,7 @@ module _ (lanes : LaneTable) (number : ℕ) (reserved : List ℕ) where
   no-way target v none has = record {
     targets = has.targets;
     few = let few = has.few in omega (arith, few);
-    numbers_count = has.numbers_count;
+    ways_count = has.ways_count;
     outboxes_count = has.outboxes_count;
     places_count = has.places_count;
     ways = λ t within way. ⊎_elim
@@ -68,24 +69,24 @@ module _ (lanes : LaneTable) (number : ℕ) (reserved : List ℕ) where
   }
 
   -- there is one
-  one-way : (target p : ℕ) (b : OutboxView) (v v' : WaysView) → HasWays lanes number reserved target v → target < length lanes → IsFresh (table_lanes lanes number target) b → slice_get reserved target ≡ Some p → v'.numbers ≡ set v.numbers target (length v.outboxes)
+  one-way : (target p : ℕ) (b : OutboxView) (v v' : WaysView) → HasWays lanes number reserved target v → target < length lanes → IsFresh (table_lanes lanes number target) b → slice_get reserved target ≡ Some p → v'.ways ≡ set v.ways target (length v.outboxes)
       → v'.outboxes ≡ v.outboxes ++ b ∷ [] → v'.places ≡ v.places ++ p ∷ [] → HasWays lanes number reserved (target + 1) v'
-  one-way target p b v v' has there fresh place are-numbers are-outboxes are-places = record {
+  one-way target p b v v' has there fresh place are-ways are-outboxes are-places = record {
     targets = has.targets ++ target ∷ [];
     few = let few = has.few in omega (arith, few, length-append has.targets (target ∷ []));
-    numbers_count = ap (λ (l : List ℕ). length l) are-numbers ∙ length-set v.numbers target (length v.outboxes) ∙ has.numbers_count;
+    ways_count = ap (λ (l : List ℕ). length l) are-ways ∙ length-set v.ways target (length v.outboxes) ∙ has.ways_count;
     outboxes_count = let size = ap (λ (l : List OutboxView). length l) are-outboxes in let n = has.outboxes_count in omega (arith, size, n, length-append has.targets (target ∷ []), length-append v.outboxes (b ∷ []));
     places_count = let size = ap (λ (l : List ℕ). length l) are-places in let n = has.places_count in omega (arith, size, n, length-append has.targets (target ∷ []), length-append v.places (p ∷ []));
     ways = λ t within way. ⊎_elim
         (λ (e : t ≡ target). (
           length v.outboxes,
-          (λ i. slice_get (are-numbers i) (e i)) ∙ set-there v.numbers target (length v.outboxes) (let n = has.numbers_count in omega (arith, there, n)),
+          (λ i. slice_get (are-ways i) (e i)) ∙ set-there v.ways target (length v.outboxes) (let n = has.ways_count in omega (arith, there, n)),
           ap (λ (k : ℕ). slice_get (has.targets ++ target ∷ []) k) (sym has.outboxes_count) ∙ slice_get-behind has.targets [] target ∙ ap (λ (k : ℕ). Some k) (sym e),
         ))
         (λ (e : t ≡ target → ⊥).
         let there = has.ways t (below t target within e) way in (
           there.0,
-          ap (λ (l : List ℕ). slice_get l t) are-numbers ∙ set-elsewhere v.numbers target t (length v.outboxes) there.0 e there.1,
+          ap (λ (l : List ℕ). slice_get l t) are-ways ∙ set-elsewhere v.ways target t (length v.outboxes) there.0 e there.1,
           at-pushed has.targets target there.0 t there.2,
         ))
         (cases_eq t target);
@@ -142,7 +143,7 @@ module _ {M S T : Type 0} (ends : MailboxEnds M S T) (inbox : InboxView M) (ways
         (λ i u at. All-at (λ (u : SendSeatView). u ≡ new_send_seat inbox.name u.number) left.seats (suc i) u are.seats (ap (λ (l : List SendSeatView). slice_get l (suc i)) seats ∙ at));
   }
 
-module _ {M S T : Type 0} (ends : MailboxEnds M S T) (lanes : LaneTable) (inboxes : List (InboxView M)) (target : ℕ) (places : List PlacesView) where
+module _ {M S T : Type 0} (ends : MailboxEnds M S T) (lanes : LaneTable) (inboxes : List (InboxView M)) (target : ℕ) (places : List (Vec ℕ)) where
   abbrev there : List (List Lane)
   there = lanes_to lanes target
 
@@ -153,8 +154,8 @@ module _ {M S T : Type 0} (ends : MailboxEnds M S T) (lanes : LaneTable) (inboxe
     pub within : from ≤ length lanes
     pub count : length all ≡ length lanes
     pub column : (inbox : InboxView M) → slice_get inboxes target ≡ Some inbox → IsColumn ends inbox (ways_from target from (drop from there)) left
-    pub done : (number : ℕ) (v : WaysView) (p : PlacesView) → slice_get all number ≡ Some v → slice_get places number ≡ Some p → number < from → HasWays lanes number p.targets (target + 1) v
-    pub others : (number : ℕ) (v : WaysView) (p : PlacesView) → slice_get all number ≡ Some v → slice_get places number ≡ Some p → from ≤ number → HasWays lanes number p.targets target v
+    pub done : (number : ℕ) (v : WaysView) (p : Vec ℕ) → slice_get all number ≡ Some v → slice_get places number ≡ Some p → number < from → HasWays lanes number p.items (target + 1) v
+    pub others : (number : ℕ) (v : WaysView) (p : Vec ℕ) → slice_get all number ≡ Some v → slice_get places number ≡ Some p → from ≤ number → HasWays lanes number p.items target v
 
   -- The next of the column goes to an executor that is there, has room for one way more, and can make its outbox: once it has
   -- it, what is left of the column is what is behind.
@@ -163,18 +164,18 @@ module _ {M S T : Type 0} (ends : MailboxEnds M S T) (lanes : LaneTable) (inboxe
     pub seat : t.name ≡ inbox.name
     pub in_places : x < length places
     pub in_all : x < length all
-    pub reserved : (p : PlacesView) → p ≡ get_or places x p → target < length p.targets
+    pub reserved : (p : Vec ℕ) → p ≡ get_or places x p → target < length p.items
     pub few : (v : WaysView) → v ≡ get_or all x v → length v.outboxes ≤ target
-    pub wide : (v : WaysView) → v ≡ get_or all x v → target < length v.numbers
-    pub behind : (v v' : WaysView) (p : PlacesView) (b : OutboxView) (r : ℕ) → v ≡ get_or all x v → p ≡ get_or places x p → b ≡ record { sends = ends.sends_of s; seat = t } → slice_get p.targets target ≡ Some r
-        → v'.numbers ≡ set v.numbers target (length v.outboxes) → v'.outboxes ≡ v.outboxes ++ b ∷ [] → v'.places ≡ v.places ++ r ∷ [] → Deals next (set all x v')
+    pub wide : (v : WaysView) → v ≡ get_or all x v → target < length v.ways
+    pub behind : (v v' : WaysView) (p : Vec ℕ) (b : OutboxView) (r : ℕ) → v ≡ get_or all x v → p ≡ get_or places x p → b ≡ record { sends = ends.sends_of s; seat = t } → r ≡ get_or p.items target r
+        → v'.ways ≡ set v.ways target (length v.outboxes) → v'.outboxes ≡ v.outboxes ++ b ∷ [] → v'.places ≡ v.places ++ r ∷ [] → Deals next (set all x v')
 
   -- at first none has it
   pub deals-start : (column left : ColumnView S) (all : List WaysView) → CanDeal ends lanes inboxes target column places all → left ≡ column → Deals left all
   deals-start column left all can same = record {
     from = 0;
     within = omega arith;
-    count = can.all_count;
+    count = can.rows_count;
     column = λ inbox at. subst (λ (c : ColumnView S). IsColumn ends inbox (ways_from target 0 there) c) (sym same) (can.column inbox at);
     done = λ number v p at-v at-p lt. absurd (omega (arith, lt));
     others = λ number v p at-v at-p le. can.ways number v p at-v at-p;
@@ -196,7 +197,7 @@ module _ {M S T : Type 0} (ends : MailboxEnds M S T) (lanes : LaneTable) (inboxe
       all-dealt none number v p at-v at-p = ⊎_elim
           (λ (e : number < deals.from). deals.done number v p at-v at-p e)
           (λ (e : deals.from ≤ number).
-          no-way lanes number p.targets target v
+          no-way lanes number p.items target v
           (no-more target deals.from (length there - deals.from) there rests (nil_from_length ways none) number e (let lt = slice_get_within all number v at-v in let n = deals.count in let size = wide in omega (arith, lt, n, size)))
           (deals.others number v p at-v at-p e))
           (cases_lt number deals.from)
@@ -250,12 +251,15 @@ module _ {M S T : Type 0} (ends : MailboxEnds M S T) (lanes : LaneTable) (inboxe
           at-all : (v : WaysView) → v ≡ get_or all x v → slice_get all x ≡ Some v
           at-all v is-v = slice_get_read all (length all) x v refl in-all is-v
 
-          at-places : (p : PlacesView) → p ≡ get_or places x p → slice_get places x ≡ Some p
+          at-places : (p : Vec ℕ) → p ≡ get_or places x p → slice_get places x ≡ Some p
           at-places p is-p = slice_get_read places (length places) x p refl in-places is-p
+
+          row-long : (p : Vec ℕ) → p ≡ get_or places x p → target < length p.items
+          row-long p is-p = let long = All-at (λ (q : Vec ℕ). length q.items ≡ length lanes) places x p placed.targets (at-places p is-p) in let lt = within in omega (arith, long, lt)
 
           -- it has its ways to the targets before
           before : (v : WaysView) → v ≡ get_or all x v → (reserved : List ℕ) × HasWays lanes x reserved target v
-          before v is-v = let p = at-index places x in-places in (p.0.targets, deals.others x v p.0 (at-all v is-v) p.1 from-here)
+          before v is-v = let p = at-index places x in-places in (p.0.items, deals.others x v p.0 (at-all v is-v) p.1 from-here)
 
           fresh : IsFresh (table_lanes lanes x target) (record { sends = ends.sends_of s; seat = t })
           fresh = record {
@@ -273,9 +277,9 @@ module _ {M S T : Type 0} (ends : MailboxEnds M S T) (lanes : LaneTable) (inboxe
               (behind ends i ways front.1 front.0 left next x s t front.2 (deals.column i at-i) origins senders seats)
 
           -- once it has it, what is left is that of the executors behind it
-          deals-next : (v v' : WaysView) (p : PlacesView) (b : OutboxView) (r : ℕ) → slice_get all x ≡ Some v → slice_get places x ≡ Some p → b ≡ record { sends = ends.sends_of s; seat = t } → slice_get p.targets target ≡ Some r
-              → v'.numbers ≡ set v.numbers target (length v.outboxes) → v'.outboxes ≡ v.outboxes ++ b ∷ [] → v'.places ≡ v.places ++ r ∷ [] → Deals next (set all x v')
-          deals-next v v' p b r at-v at-p made-is place are-numbers are-outboxes are-places = record {
+          deals-next : (v v' : WaysView) (p : Vec ℕ) (b : OutboxView) (r : ℕ) → slice_get all x ≡ Some v → slice_get places x ≡ Some p → b ≡ record { sends = ends.sends_of s; seat = t } → slice_get p.items target ≡ Some r
+              → v'.ways ≡ set v.ways target (length v.outboxes) → v'.outboxes ≡ v.outboxes ++ b ∷ [] → v'.places ≡ v.places ++ r ∷ [] → Deals next (set all x v')
+          deals-next v v' p b r at-v at-p made-is place are-ways are-outboxes are-places = record {
             from = x + 1;
             within = let lt = deal-there in omega (arith, lt);
             count = length-set all x v' ∙ deals.count;
@@ -285,19 +289,19 @@ module _ {M S T : Type 0} (ends : MailboxEnds M S T) (lanes : LaneTable) (inboxe
                 (λ (e : number ≡ x → ⊥). ⊎_elim
                 (λ (a : number < deals.from). deals.done number u q (at_set_other all x number v' u e at-u) at-q a)
                 (λ (a : deals.from ≤ number).
-                no-way lanes number q.targets target u (none-until number a (below number x lt e)) (deals.others number u q (at_set_other all x number v' u e at-u) at-q a))
+                no-way lanes number q.items target u (none-until number a (below number x lt e)) (deals.others number u q (at_set_other all x number v' u e at-u) at-q a))
                 (cases_lt number deals.from))
                 (cases_eq number x);
             others = λ number u q at-u at-q le.
                 deals.others number u q (at_set_other all x number v' u (λ e. omega (arith, le, e)) at-u) at-q (let a = from-here in omega (arith, a, le));
           }
             where
-              mine : HasWays lanes x p.targets (target + 1) v'
-              mine = one-way lanes x p.targets target r b v v' (deals.others x v p at-v at-p from-here) within (subst (λ (o : OutboxView). IsFresh (table_lanes lanes x target) o) (sym made-is) fresh) place are-numbers are-outboxes are-places
+              mine : HasWays lanes x p.items (target + 1) v'
+              mine = one-way lanes x p.items target r b v v' (deals.others x v p at-v at-p from-here) within (subst (λ (o : OutboxView). IsFresh (table_lanes lanes x target) o) (sym made-is) fresh) place are-ways are-outboxes are-places
 
-              at-mine : (number : ℕ) (u : WaysView) (q : PlacesView) → number ≡ x → slice_get (set all x v') number ≡ Some u → slice_get places number ≡ Some q → HasWays lanes number q.targets (target + 1) u
+              at-mine : (number : ℕ) (u : WaysView) (q : Vec ℕ) → number ≡ x → slice_get (set all x v') number ≡ Some u → slice_get places number ≡ Some q → HasWays lanes number q.items (target + 1) u
               at-mine number u q e at-u at-q =
-                  subst (λ (z : ℕ × PlacesView × WaysView). HasWays lanes z.0 z.1.targets (target + 1) z.2)
+                  subst (λ (z : ℕ × Vec ℕ × WaysView). HasWays lanes z.0 z.1.items (target + 1) z.2)
                   (λ i. (
                     sym e i,
                     same_Some p q (sym at-p ∙ ap (λ (k : ℕ). slice_get places k) (sym e) ∙ at-q) i,
@@ -310,23 +314,23 @@ module _ {M S T : Type 0} (ends : MailboxEnds M S T) (lanes : LaneTable) (inboxe
             seat = ap (λ (u : SendSeatView). u.name) (front-seat ends inbox ways front.1 front.0 left next x s t front.2 are origins senders seats);
             in_places = in-places;
             in_all = in-all;
-            reserved = λ p is-p. let long = All-at (λ (q : PlacesView). length q.targets ≡ length lanes) places x p placed.targets (at-places p is-p) in let lt = within in omega (arith, long, lt);
+            reserved = row-long;
             few = λ v is-v. let has = (before v is-v).1 in let few = has.few in let n = has.outboxes_count in omega (arith, few, n);
-            wide = λ v is-v. let n = (before v is-v).1.numbers_count in let lt = within in omega (arith, lt, n);
-            behind = λ v v' p b r is-v is-p. deals-next v v' p b r (at-all v is-v) (at-places p is-p);
+            wide = λ v is-v. let n = (before v is-v).1.ways_count in let lt = within in omega (arith, lt, n);
+            behind = λ v v' p b r is-v is-p made-is is-r. deals-next v v' p b r (at-all v is-v) (at-places p is-p) made-is (slice_get_read p.items (length p.items) target r refl (row-long p is-p) is-r);
           }
 
 -- ---- all columns
 
-pub ways-start : (lanes : LaneTable) (places : List PlacesView) (count : ℕ) (all : List WaysView) → count ≡ length lanes → All (λ v. v ≡ no_ways count) all → HaveWays lanes places 0 all
-ways-start lanes places count all whole none number v p at-v at-p = none-yet lanes number p.targets count v whole (All-at (λ (u : WaysView). u ≡ no_ways count) all number v none at-v)
+pub ways-start : (lanes : LaneTable) (places : List (Vec ℕ)) (count : ℕ) (all : List WaysView) → count ≡ length lanes → All (λ v. v ≡ no_ways count) all → HaveWays lanes places 0 all
+ways-start lanes places count all whole none number v p at-v at-p = none-yet lanes number p.items count v whole (All-at (λ (u : WaysView). u ≡ no_ways count) all number v none at-v)
 
-pub can-deal : {M S T : Type 0} (ends : MailboxEnds M S T) (lanes : LaneTable) (inboxes : List (InboxView M)) (columns : List (ColumnView S)) (places : List PlacesView) (target : ℕ) (c : ColumnView S) (all : List WaysView) → CanDealAll ends lanes inboxes columns places
+pub can-deal : {M S T : Type 0} (ends : MailboxEnds M S T) (lanes : LaneTable) (inboxes : List (InboxView M)) (columns : List (ColumnView S)) (places : List (Vec ℕ)) (target : ℕ) (c : ColumnView S) (all : List WaysView) → CanDealAll ends lanes inboxes columns places
     → slice_get columns target ≡ Some c → length all ≡ length inboxes → HaveWays lanes places target all → CanDeal ends lanes inboxes target c places all
 can-deal ends lanes inboxes columns places target c all can at count have = record {
   placed = can.placed;
   inboxes_count = can.inboxes_count;
-  all_count = count ∙ can.inboxes_count;
+  rows_count = count ∙ can.inboxes_count;
   there = let lt = slice_get_within columns target c at in let n = can.whole.count in let size = can.inboxes_count in omega (arith, lt, n, size);
   column = λ inbox at-inbox. can.whole.each target inbox c at-inbox at;
   ways = have;

@@ -11,7 +11,7 @@ use Rattle.pl_context.specs.ContextViews.{ContextView}
 use Rattle.pl_context.specs.OutputsViews.{OutputsView}
 use Rattle.pl_context.specs.Standings.{is_over}
 use Rattle.pl_flow.specs.LanesViews.{LanesView}
-use Rattle.pl_flow.specs.declared.moves.HeadMove.{HeadMove}
+use Rattle.pl_flow.specs.declared.head_moves.HeadMove.{HeadMove}
 use Rattle.pl_head.specs.Marks.{Change}
 use Rattle.pl_head.specs.Transports.{TransportState}
 use Rattle.pl_head.specs.declared.inputs.ReadPlan.{ReadPlan}
@@ -54,7 +54,7 @@ channel_parts plan n = by_channel (λ other part. part) n.here.items n.parts.ite
 
 -- the channels whose heads are there
 abbrev pub own_channels : {S T : Type 0} → ExecutorNodes S T → List ℕ
-own_channels n = map (λ k. get_or n.here.items k 0) n.own.items
+own_channels n = map (λ k. get_or n.here.items k 0) n.heads.items
 
 -- Its row of channels has a part for each, and a slot for seats; and of each channel the position is known.
 pub record AreInOrder {S T : Type 0} (channels : ℕ) (n : ExecutorNodes S T) : Type 0 where
@@ -86,7 +86,7 @@ abbrev pub own_view : {S T : Type 0} → Plan → (S → Meaning) → ExecutorNo
 own_view plan meaning n = record {
   executor = n.number;
   lanes = lanes_here meaning (channel_parts plan n);
-  heads = length n.own.items;
+  heads = length n.heads.items;
   was_refused = n.was_refused;
 }
 

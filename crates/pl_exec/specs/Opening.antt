@@ -152,15 +152,10 @@ module _ {M S T : Type 0} (ends : MailboxEnds M S T) where
 
 -- ---- the nodes of an executor
 
--- The places that are reserved on an executor's work list, and for what waits for each executor.
-pub record PlacesView : Type 0 where
-  pub work : ℕ
-  pub targets : List ℕ
-
 -- Nodes that have taken and made nothing, on the executor of this number. Each lane that they write enters one of them, or is
--- one of those to its target; and each lane to them is written elsewhere. There are places for all of them, and not too many
--- for the seats.
-pub record FitsLanes (lanes : LaneTable) (number : ℕ) (v : OwnNodesView) (places : PlacesView) : Type 0 where
+-- one of those to its target; and each lane to them is written elsewhere. There are places for all of them, so many on the
+-- work list, and these by target for what waits; and not too many for the seats.
+pub record FitsLanes (lanes : LaneTable) (number : ℕ) (v : OwnNodesView) (data_lanes : ℕ) (places : List ℕ) : Type 0 where
   pub at : v.executor ≡ number
   pub unrefused : v.was_refused ≡ false
   pub fresh : (l : Lane) → v.lanes.written l ≡ true → v.lanes.came l ≡ point 0 false
@@ -168,32 +163,32 @@ pub record FitsLanes (lanes : LaneTable) (number : ℕ) (v : OwnNodesView) (plac
   pub own : (l : Lane) → v.lanes.written l ≡ true → v.lanes.target l ≡ number → v.lanes.taken l ≡ 0
   pub away : (l : Lane) → v.lanes.written l ≡ true → v.lanes.target l ≢ number → has_lane l (table_lanes lanes number (v.lanes.target l)) ≡ true
   pub entering : (l : Lane) → has_lane l (lanes_of_senders (lanes_to lanes number)) ≡ true → (v.lanes.target l ≡ number) × (v.lanes.written l ≡ false) × (v.lanes.taken l ≡ 0)
-  pub work : HasPlaces (no_stops places.work) v.lanes.places
-  pub targets : length places.targets ≡ length lanes
+  pub work : HasPlaces (no_stops data_lanes) v.lanes.places
+  pub targets : length places ≡ length lanes
   pub hops : ℕ → List Lane
-  pub placed : (target count : ℕ) → slice_get places.targets target ≡ Some count → HasPlaces (no_stops count) (hops target)
+  pub placed : (target count : ℕ) → slice_get places target ≡ Some count → HasPlaces (no_stops count) (hops target)
   pub among : (l : Lane) → v.lanes.written l ≡ true → AreAmong (l ∷ []) (hops (v.lanes.target l))
   pub few : FewLanes v.lanes
 
--- So do the nodes and places of all executors, by number.
-pub record FitAll {N : Type 0} (view_of : N → OwnNodesView) (stands : N → Type 0) (lanes : LaneTable) (nodes : List N) (places : List PlacesView) : Type 0 where
+-- So do the nodes and places of all executors, by number. All work lists have as many.
+pub record FitAll {N : Type 0} (view_of : N → OwnNodesView) (stands : N → Type 0) (lanes : LaneTable) (nodes : List N) (data_lanes : ℕ) (places : List (Vec ℕ)) : Type 0 where
   pub nodes_count : length nodes ≡ length lanes
   pub places_count : length places ≡ length lanes
   pub stand : All stands nodes
-  pub each : (number : ℕ) (part : N) (reserved : PlacesView) → slice_get nodes number ≡ Some part → slice_get places number ≡ Some reserved → FitsLanes lanes number (view_of part) reserved
+  pub each : (number : ℕ) (part : N) (row : Vec ℕ) → slice_get nodes number ≡ Some part → slice_get places number ≡ Some row → FitsLanes lanes number (view_of part) data_lanes row.items
 
 -- ---- the ways of executors
 
 -- The ways of an executor: by target the number of the way there, and by way its outbox and the places that are reserved for
 -- what waits for it.
 pub record WaysView : Type 0 where
-  pub numbers : List ℕ
+  pub ways : List ℕ
   pub outboxes : List OutboxView
   pub places : List ℕ
 
 -- none to any of so many targets
 abbrev pub no_ways : ℕ → WaysView
-no_ways count = record { numbers = replicate count (2 ^ 16 - 1); outboxes = []; places = [] }
+no_ways count = record { ways = replicate count (2 ^ 16 - 1); outboxes = []; places = [] }
 
 -- By an outbox on these lanes nothing was sent, and nothing was admitted.
 pub record IsFresh (lanes : List Lane) (b : OutboxView) : Type 0 where
@@ -206,35 +201,35 @@ pub record IsFresh (lanes : List Lane) (b : OutboxView) : Type 0 where
 pub record HasWays (lanes : LaneTable) (number : ℕ) (reserved : List ℕ) (count : ℕ) (v : WaysView) : Type 0 where
   pub targets : List ℕ
   pub few : length targets ≤ count
-  pub numbers_count : length v.numbers ≡ length lanes
+  pub ways_count : length v.ways ≡ length lanes
   pub outboxes_count : length targets ≡ length v.outboxes
   pub places_count : length targets ≡ length v.places
-  pub ways : (target : ℕ) → target < count → is_way target number (table_lanes lanes number target) ≡ true → (way : ℕ) × (slice_get v.numbers target ≡ Some way) × (slice_get targets way ≡ Some target)
+  pub ways : (target : ℕ) → target < count → is_way target number (table_lanes lanes number target) ≡ true → (way : ℕ) × (slice_get v.ways target ≡ Some way) × (slice_get targets way ≡ Some target)
   pub each : (way target : ℕ) (b : OutboxView) → slice_get targets way ≡ Some target → slice_get v.outboxes way ≡ Some b → IsFresh (table_lanes lanes number target) b
   pub placed : (way target p : ℕ) → slice_get targets way ≡ Some target → slice_get v.places way ≡ Some p → slice_get reserved target ≡ Some p
 
 -- So it is with the ways of all executors.
-abbrev pub HaveWays : LaneTable → List PlacesView → ℕ → List WaysView → Type 0
-HaveWays lanes places count all = (number : ℕ) (v : WaysView) (p : PlacesView) → slice_get all number ≡ Some v → slice_get places number ≡ Some p → HasWays lanes number p.targets count v
+abbrev pub HaveWays : LaneTable → List (Vec ℕ) → ℕ → List WaysView → Type 0
+HaveWays lanes places count rows = (number : ℕ) (v : WaysView) (row : Vec ℕ) → slice_get rows number ≡ Some v → slice_get places number ≡ Some row → HasWays lanes number row.items count v
 
 -- A table of lanes, and for each of its executors places for each target.
-pub record HaveTargets (lanes : LaneTable) (places : List PlacesView) : Type 0 where
+pub record HaveTargets (lanes : LaneTable) (places : List (Vec ℕ)) : Type 0 where
   pub square : IsSquare lanes
   pub count : length places ≡ length lanes
-  pub targets : All (λ p. length p.targets ≡ length lanes) places
+  pub targets : All (λ row. length row.items ≡ length lanes) places
 
 module _ {M S T : Type 0} (ends : MailboxEnds M S T) where
   -- The column of this target can be given to executors that have their ways to all before it.
-  pub record CanDeal (lanes : LaneTable) (inboxes : List (InboxView M)) (target : ℕ) (c : ColumnView S) (places : List PlacesView) (all : List WaysView) : Type 0 where
+  pub record CanDeal (lanes : LaneTable) (inboxes : List (InboxView M)) (target : ℕ) (c : ColumnView S) (places : List (Vec ℕ)) (rows : List WaysView) : Type 0 where
     pub placed : HaveTargets lanes places
     pub inboxes_count : length inboxes ≡ length lanes
-    pub all_count : length all ≡ length lanes
+    pub rows_count : length rows ≡ length lanes
     pub there : target < length lanes
     pub column : (inbox : InboxView M) → slice_get inboxes target ≡ Some inbox → IsColumn ends inbox (ways_to target (lanes_to lanes target)) c
-    pub ways : HaveWays lanes places target all
+    pub ways : HaveWays lanes places target rows
 
   -- So can those of all targets, one after the other.
-  pub record CanDealAll (lanes : LaneTable) (inboxes : List (InboxView M)) (columns : List (ColumnView S)) (places : List PlacesView) : Type 0 where
+  pub record CanDealAll (lanes : LaneTable) (inboxes : List (InboxView M)) (columns : List (ColumnView S)) (places : List (Vec ℕ)) : Type 0 where
     pub placed : HaveTargets lanes places
     pub inboxes_count : length inboxes ≡ length lanes
     pub whole : AreColumns ends lanes inboxes columns
@@ -250,20 +245,22 @@ pub record IsFirst {N : Type 0} (number : ℕ) (e : ExecutorView N) : Type 0 whe
   pub phase : e.owner.phase ≡ Accepting
 
 module _ {M S T N : Type 0} (ends : MailboxEnds M S T) (view_of : N → OwnNodesView) (stands : N → Type 0) where
-  -- An executor with these nodes, these ends of its own and these ways can start: all fit the same lanes.
-  pub record Starts (inboxes : List (InboxView M)) (number : ℕ) (own_ends : OwnView T) (its_ways : WaysView) (nodes : N) (places : PlacesView) : Type 0 where
+  -- An executor with these nodes, these ends of its own, these ways and so many places on its work list can start: all fit the
+  -- same lanes.
+  pub record Starts (inboxes : List (InboxView M)) (number : ℕ) (own_ends : OwnView T) (its_ways : WaysView) (nodes : N) (data_lanes : ℕ) : Type 0 where
     pub lanes : LaneTable
+    pub places : List ℕ
     pub square : IsSquare lanes
     pub count : length inboxes ≡ length lanes
     pub own : (inbox : InboxView M) → slice_get inboxes number ≡ Some inbox → IsOwn ends inbox (lanes_to lanes number) own_ends
-    pub ways : HasWays lanes number places.targets (length lanes) its_ways
+    pub ways : HasWays lanes number places (length lanes) its_ways
     pub stood : stands nodes
-    pub fits : FitsLanes lanes number (view_of nodes) places
+    pub fits : FitsLanes lanes number (view_of nodes) data_lanes places
 
   -- All executors can start: their inboxes were opened for the lanes that their nodes fit.
-  pub record CanStart (inboxes : List (InboxView M)) (all : List (OwnView T)) (columns : List (ColumnView S)) (nodes : List N) (places : List PlacesView) : Type 0 where
+  pub record CanStart (inboxes : List (InboxView M)) (all : List (OwnView T)) (columns : List (ColumnView S)) (nodes : List N) (data_lanes : ℕ) (places : List (Vec ℕ)) : Type 0 where
     pub lanes : LaneTable
     pub square : IsSquare lanes
     pub count : length inboxes ≡ length lanes
     pub opened : AreOpened ends lanes inboxes all columns
-    pub fit : FitAll view_of stands lanes nodes places
+    pub fit : FitAll view_of stands lanes nodes data_lanes places

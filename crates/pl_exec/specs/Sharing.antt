@@ -1,17 +1,13 @@
 -- The nodes of all channels, each at its executor.
 use Rattle.std.specs.Global.{Vec}
 use Rattle.std.specs.Prelude.{◌≡◌, ◌≢◌, ℕ, ◌<◌, ◌==◌, false, List, [], ◌∷◌, ◌++◌, All, length, map, cond, get_or, slice_get, true, Option, Some, is_some}
-use Rattle.std.specs.List.{range_with_len}
 use Rattle.std.specs.Set.{is_member}
 use Rattle.pl_event.specs.declared.events.Event.{Event}
 use Rattle.pl_event.specs.Meaning.{Meaning}
 use Rattle.pl_head.specs.Transports.{TransportState}
 use Rattle.pl_part.specs.Parts.{ChannelPartView}
 use Rattle.pl_part.specs.Shares.{IsShare, IsShareOf, only_if}
-use Rattle.pl_channel.specs.Channels.{data_lanes_of}
-use Rattle.pl_channel.specs.Ways.{lanes_between}
 use Rattle.pl_exec.specs.declared.nodes.ExecutorNodes.{ExecutorNodes}
-use Rattle.pl_exec.specs.Opening.{PlacesView}
 use Rattle.pl_exec.specs.ExecutorNodes.{AreInOrder, heads_of, numbered_from}
 use Rattle.pl_exec.specs.SessionWords.{ChannelNames, SeatsView}
 
@@ -44,7 +40,7 @@ module _ {S T : Type 0} (meaning : S → Meaning) (stands_after : S → List Eve
     pub here : nodes.here.items ≡ row
     pub in_order : AreInOrder (length wholes) nodes
     pub each : (k : ℕ) (share : ChannelPartView S T) (slot : Option SeatsView) → slice_get nodes.parts.items k ≡ Some share → slice_get nodes.seats.items k ≡ Some slot → HasShare x (get_or row k 0) share slot
-    pub own : nodes.own.items ≡ heads_of nodes.parts.items
+    pub own : nodes.heads.items ≡ heads_of nodes.parts.items
 
   -- So it is with each executor, by its row.
   pub record AreShared (rows : List (List ℕ)) (all : List (ExecutorNodes S T)) : Type 0 where
@@ -68,24 +64,10 @@ module _ {S T : Type 0} where
 
   -- An executor gets its share of one channel more, and of its seats what a head takes.
   pub record Gets (before : ExecutorNodes S T) (share : ChannelPartView S T) (slot : Option SeatsView) (after : ExecutorNodes S T) : Type 0 where
-    pub same : after ≡ record before { parts = after.parts; own = after.own; seats = after.seats }
+    pub same : after ≡ record before { parts = after.parts; heads = after.heads; seats = after.seats }
     pub parts : after.parts.items ≡ before.parts.items ++ share ∷ []
-    pub own : after.own.items ≡ before.own.items ++ cond (is_some share.head) (length before.parts.items ∷ []) []
+    pub own : after.heads.items ≡ before.heads.items ++ cond (is_some share.head) (length before.parts.items ∷ []) []
     pub seats : after.seats.items ≡ before.seats.items ++ only_if (is_some share.head) slot ∷ []
-
--- ---- the places
-
-module _ {S T : Type 0} (wholes : List (ChannelPartView S T)) (so_many : ℕ) where
-  -- those of an executor: on its work list for each data lane, and for what waits for a target for each lane from it to there
-  abbrev pub places_at : ℕ → PlacesView
-  places_at x = record {
-    work = length (data_lanes_of wholes);
-    targets = map (λ y. length (lanes_between wholes x y)) (range_with_len 0 so_many);
-  }
-
-  -- of each of so many executors
-  abbrev pub places_of : List PlacesView
-  places_of = map places_at (range_with_len 0 so_many)
 
 -- ---- which channels have nodes where
 

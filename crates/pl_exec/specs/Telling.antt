@@ -100,6 +100,6 @@ pub record ExecutorStands {S T : Type 0} (world : World) (plan : Plan) (meaning 
   pub is_world : world ≡ world_of true plan
   pub in_order : AreInOrder (length plan.channels) n
   pub nodes : NodesStand world plan meaning stands_after state n.number n.was_refused (channel_parts plan n)
-  pub own : n.own.items ≡ heads_of n.parts.items
+  pub own : n.heads.items ≡ heads_of n.parts.items
   pub seated : AreSeated n.words.now plan (channel_seats plan n)
   pub told : (c : ℕ) → TellsAt (channel_seats plan n) (channel_parts plan n) c

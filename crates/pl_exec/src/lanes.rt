@@ -2,7 +2,6 @@
 
 ghost use Rattle.std.specs.Prelude.{◌≡◌, ◌+◌, ◌<◌, ◌^◌, ◌++◌, ◌∷◌, [], ℕ, ◌==◌, All, Some, cond, length, map, slice_get, IfOk, OnOk};
 ghost use Rattle.std.specs.Global.{Vec};
-ghost use Rattle.std.specs.List.{range_with_len};
 ghost use Rattle.pl_part.specs.Paths.{writer_hop};
 ghost use Rattle.pl_channel.specs.Channels.{executor_at};
 ghost use Rattle.pl_channel.specs.Ways.{HasExecutors};
@@ -115,7 +114,7 @@ fn add_between(
 }
 
 /// For each target the ways to it, in the order of the executors that have them: one walk over these and their lanes.
-pub(crate) fn all_ways(
+pub(crate) fn ways_by_target(
     alloc: Global,
     lanes: Vec<Vec<Leaving>>,
 ) -> Result<Vec<Vec<WayIn>>, AllocError>
@@ -124,8 +123,8 @@ pub(crate) fn all_ways(
 {
     let mut table = empty_lists(alloc, lanes.len())?;
     let mut origin = 0;
-    for leaving in lanes {
-        add_origin(alloc, &mut table, origin, leaving)?;
+    for row in lanes {
+        add_origin(alloc, &mut table, origin, row)?;
         origin += 1;
     }
     Ok(table)
@@ -137,17 +136,17 @@ fn add_origin(
     alloc: Global,
     table: &mut Vec<Vec<WayIn>>,
     origin: usize,
-    leaving: Vec<Leaving>,
+    lanes: Vec<Leaving>,
 ) -> Result<(), AllocError>
     requires there { origin < length table.old.items }
     requires few { origin < 2 ^ 16 }
     ensures count { OnOk result (length table.new.items ≡ length table.old.items) }
-    ensures added { OnOk result ((target : ℕ) (before after : Vec WayIn) → slice_get table.old.items target ≡ Some before → slice_get table.new.items target ≡ Some after → AreBefore origin (ways_in before.items) → ways_in after.items ≡ ways_in before.items ++ way_if target origin (lanes_with leaving.items target)) }
+    ensures added { OnOk result ((target : ℕ) (before after : Vec WayIn) → slice_get table.old.items target ≡ Some before → slice_get table.new.items target ≡ Some after → AreBefore origin (ways_in before.items) → ways_in after.items ≡ ways_in before.items ++ way_if target origin (lanes_with lanes.items target)) }
 {
     let number = origin as u16;
     add_way(alloc, &mut table[origin], number)?;
-    for lane in leaving {
-        add_leaving(alloc, table, number, lane)?;
+    for leaving in lanes {
+        add_leaving(alloc, table, number, leaving)?;
     }
     Ok(())
 }
@@ -211,7 +210,7 @@ fn add_new(alloc: Global, ways: &mut Vec<WayIn>, origin: u16, lane: Lane) -> Res
     Ok(())
 }
 
-/// The way of an executor to itself: no lane goes there.
+/// The way of an executor to itself, by which nothing goes: a mailbox has one sender at least.
 fn add_way(alloc: Global, ways: &mut Vec<WayIn>, origin: u16) -> Result<(), AllocError>
     ensures { OnOk result (ways_in ways.new.items ≡ ways_in ways.old.items ++ way_by origin [] ∷ []) }
 {
@@ -231,11 +230,10 @@ pub(crate) fn split_ways(
     ensures lanes { IfOk result (λ r. map (λ list. list.items) r.1.items ≡ map (λ way. way.lanes) (ways_in ways.items)) }
 {
     let mut origins = Vec::with_capacity(alloc, ways.len())?;
-    let mut all = Vec::with_capacity(alloc, ways.len())?;
+    let mut lanes = Vec::with_capacity(alloc, ways.len())?;
     for way in ways {
-        let WayIn { origin, lanes } = way;
-        origins.push(origin)?;
-        all.push(lanes)?;
+        origins.push(way.origin)?;
+        lanes.push(way.lanes)?;
     }
-    Ok((origins, all))
+    Ok((origins, lanes))
 }

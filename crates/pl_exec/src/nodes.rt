@@ -28,7 +28,7 @@ pub(crate) struct ExecutorNodes<'a, S: Stage, T: Transport> {
     /// Of each of these the seats on its words, where there are some and its head is one of the nodes.
     pub(crate) seats: Vec<Option<Seats>>,
     /// The positions, among these, of the channels whose heads are here. Only these are read and written here.
-    pub(crate) own: Vec<usize>,
+    pub(crate) heads: Vec<usize>,
     /// By channel its position among these; how many they are, where it has no node here.
     pub(crate) positions: Vec<u8>,
     /// Something of a lane that one of its contexts writes was refused.
@@ -75,12 +75,12 @@ impl<'a, W: Planned, S: Stage, T: Transport> OwnNodes<W> for ExecutorNodes<'a, S
     }
 
     fn head_count(&self) -> usize {
-        self.own.len()
+        self.heads.len()
     }
 
     #[inline(always)]
     fn move_head(&mut self, by: HeadMove, at: usize, work: &mut Outputs) -> bool {
-        let position = self.own[at];
+        let position = self.heads[at];
         let has_moved = self.parts[position].move_head(by, work);
         self.tell_if::<W>(position, has_moved);
         has_moved

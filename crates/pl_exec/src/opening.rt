@@ -4,9 +4,8 @@ ghost use Rattle.std.specs.Prelude.{◌≡◌, ◌+◌, ◌<◌, ◌^◌, ◌∷
 ghost use Rattle.pl_exec.specs.Opening.{LaneTable, lanes_in, inbox_view, no_ways, ways_in, CanOpen, CanOpenAll, IsOwn, IsColumn, AreOpened, CanDeal, CanDealAll, HaveWays, Starts, CanStart, IsFirst};
 ghost use Rattle.pl_threads.specs.Running.{ExecutorView};
 
-use crate::lanes::{Leaving, WayIn, all_ways, split_ways};
+use crate::lanes::{Leaving, WayIn, split_ways, ways_by_target};
 use crate::planned::Planned;
-use crate::sharing::Places;
 use crossbeam_utils::sync::Parker;
 use pl_context::Outputs;
 use pl_event::Named;
@@ -32,7 +31,7 @@ impl<W: Named, M: Mailbox<W>> Model for OwnEnds<W, M> {
 
     ghost Value = { OwnView M.Taker };
 
-    ghost view = { λ own. record { taker = own.taker; owner = own.owner } };
+    ghost view = { λ ends. record { taker = ends.taker; owner = ends.owner } };
 }
 
 /// What executors have of one target: the senders of its mailbox, and the seats of its admission, one of each for each executor
@@ -75,7 +74,7 @@ fn open<W: Named, M: Mailbox<W> + Drop>(
     };
     let (admission, seats, owner) = Admission::new(alloc, count)?;
     let (inbox, parker) = Inbox::new(alloc, mailbox, admission)?;
-    let own = OwnEnds {
+    let own_ends = OwnEnds {
         taker,
         owner,
         parker,
@@ -85,7 +84,7 @@ fn open<W: Named, M: Mailbox<W> + Drop>(
         senders,
         seats,
     };
-    Ok((inbox, own, column))
+    Ok((inbox, own_ends, column))
 }
 
 /// For each executor its inbox, what it has of that, and the column of that for all. `lanes` has for each executor the lanes
@@ -106,37 +105,39 @@ pub(crate) fn open_all<W: Named, M: Mailbox<W> + Drop>(
     let mut inboxes = Vec::with_capacity(alloc, count)?;
     let mut ends = Vec::with_capacity(alloc, count)?;
     let mut columns = Vec::with_capacity(alloc, count)?;
-    for ways in all_ways(alloc, lanes)? {
-        let (inbox, own, column) = open::<W, M>(alloc, ways, capacity)?;
+    for ways in ways_by_target(alloc, lanes)? {
+        let (inbox, own_ends, column) = open::<W, M>(alloc, ways, capacity)?;
         inboxes.push(inbox)?;
-        ends.push(own)?;
+        ends.push(own_ends)?;
         columns.push(column)?;
     }
     Ok((inboxes, ends, columns))
 }
 
 /// The executors before their first turn, each with its nodes, its own ends and its outboxes, and with the parker of its
-/// inbox. Nothing waits, and nothing was taken. The mailboxes have the capacity of the plan.
+/// inbox. Nothing waits, and nothing was taken. The mailboxes have the capacity of the plan. Each work list has a place for
+/// each data lane; `places` has by executor and by target how many are reserved for what waits.
 pub(crate) fn executors<'a, W: Planned, M: Mailbox<W> + Drop, N: OwnNodes<W> + Drop>(
     alloc: Global,
     inboxes: &'a [Inbox<W, M>],
     ends: Vec<OwnEnds<W, M>>,
     columns: Vec<Column<W, M>>,
     nodes: Vec<N>,
-    places: Vec<Places>,
+    data_lanes: u16,
+    places: &[Vec<u16>],
 ) -> Result<Vec<(Executor<'a, W, M, N>, Parker)>, AllocError>
     requires few { length inboxes.now < 2 ^ 16 }
     requires capacity { All (λ i. M.ends.capacity_of i.mailbox ≡ W.plan.capacity) inboxes.now }
-    requires start { CanStart M.ends N.view_of N.stands (map inbox_view inboxes.now) ends.items columns.items nodes.items places.items }
+    requires start { CanStart M.ends N.view_of N.stands (map inbox_view inboxes.now) ends.items columns.items nodes.items data_lanes places.now }
     ensures parts { IfOk result (λ executors. map (λ e. e.0.nodes) executors.items ≡ nodes.items) }
     ensures first { IfOk result (λ executors. (y : ℕ) (e : ExecutorView N) → slice_get (map (λ e. e.0) executors.items) y ≡ Some e → IsFirst y e) }
 {
-    let mut all_ways = ways_of_all(alloc, inboxes, columns, places.as_slice())?;
+    let mut rows = ways_of_all(alloc, inboxes, columns, places)?;
     let mut executors = Vec::with_capacity(alloc, inboxes.len())?;
     let mut number = 0;
-    for ((own, nodes), places) in ends.into_iter().zip(nodes).zip(places) {
-        let ways = all_ways[number].take(alloc);
-        executors.push(executor(alloc, inboxes, number, own, ways, nodes, &places)?)?;
+    for (own_ends, nodes) in ends.into_iter().zip(nodes) {
+        let ways = rows[number].take(alloc);
+        executors.push(executor(alloc, inboxes, number, own_ends, ways, nodes, data_lanes)?)?;
         number += 1;
     }
     Ok(executors)
@@ -147,14 +148,14 @@ fn executor<'a, W: Named, M: Mailbox<W> + Drop, N: OwnNodes<W> + Drop>(
     alloc: Global,
     inboxes: &'a [Inbox<W, M>],
     number: usize,
-    own: OwnEnds<W, M>,
+    own_ends: OwnEnds<W, M>,
     ways: Ways<'a, W, M>,
     nodes: N,
-    places: &Places,
+    data_lanes: u16,
 ) -> Result<(Executor<'a, W, M, N>, Parker), AllocError>
     requires there { number < length inboxes.now }
     requires few { length inboxes.now < 2 ^ 16 }
-    requires starts { Starts M.ends N.view_of N.stands (map inbox_view inboxes.now) number own ways nodes places.now }
+    requires starts { Starts M.ends N.view_of N.stands (map inbox_view inboxes.now) number own_ends ways nodes data_lanes }
     ensures nodes { IfOk result (λ e. e.0.nodes ≡ nodes) }
     ensures first { IfOk result (λ e. IsFirst number e.0) }
 {
@@ -162,29 +163,29 @@ fn executor<'a, W: Named, M: Mailbox<W> + Drop, N: OwnNodes<W> + Drop>(
         taker,
         owner,
         parker,
-    } = own;
+    } = own_ends;
     let Ways {
-        inboxes: targets,
-        numbers,
+        ways,
         outboxes,
-        places: reserved,
+        places,
+        ..
     } = ways;
     let core = Core::of(
         number,
         nodes,
-        Outboxes::new(alloc, targets, numbers, outboxes, reserved.as_slice())?,
-        Outputs::new(alloc, places.work)?,
+        Outboxes::new(alloc, inboxes, ways, outboxes, places.as_slice())?,
+        Outputs::new(alloc, data_lanes)?,
     );
     Ok((Executor::new(core, &inboxes[number], taker, owner), parker))
 }
 
-/// The ways of an executor to others, in the order of these.
+/// The ways of an executor, in the order of their targets, itself among them.
 #[derive(Drop)]
 struct Ways<'a, W: Named, M: Mailbox<W> + Drop> {
     /// Those of all executors, by number: by these its type has the lifetime of what its outboxes borrow.
     inboxes: &'a [Inbox<W, M>],
     /// By executor the number of the way to it, or `NO_WAY`.
-    numbers: Vec<u16>,
+    ways: Vec<u16>,
     outboxes: Vec<Outbox<'a, W, M>>,
     /// By way the places that are reserved for what waits for it.
     places: Vec<u16>,
@@ -195,7 +196,7 @@ impl<'a, W: Named, M: Mailbox<W> + Drop> Model for Ways<'a, W, M> {
 
     ghost Value = { WaysView };
 
-    ghost view = { λ w. record { numbers = w.numbers.items; outboxes = w.outboxes.items; places = w.places.items } };
+    ghost view = { λ w. record { ways = w.ways.items; outboxes = w.outboxes.items; places = w.places.items } };
 }
 
 impl<'a, W: Named, M: Mailbox<W> + Drop> Ways<'a, W, M> {
@@ -205,7 +206,7 @@ impl<'a, W: Named, M: Mailbox<W> + Drop> Ways<'a, W, M> {
     {
         Ok(Ways {
             inboxes,
-            numbers: vec![in alloc; NO_WAY; inboxes.len()]?,
+            ways: vec![in alloc; NO_WAY; inboxes.len()]?,
             outboxes: Vec::new(alloc),
             places: Vec::new(alloc),
         })
@@ -217,7 +218,7 @@ impl<'a, W: Named, M: Mailbox<W> + Drop> Ways<'a, W, M> {
     {
         Ways {
             inboxes: self.inboxes,
-            numbers: mem::replace(&mut self.numbers, Vec::new(alloc)),
+            ways: mem::replace(&mut self.ways, Vec::new(alloc)),
             outboxes: mem::replace(&mut self.outboxes, Vec::new(alloc)),
             places: mem::replace(&mut self.places, Vec::new(alloc)),
         }
@@ -230,13 +231,13 @@ impl<'a, W: Named, M: Mailbox<W> + Drop> Ways<'a, W, M> {
         outbox: Outbox<'a, W, M>,
         places: u16,
     ) -> Result<(), AllocError>
-        requires there { target < length self.old.numbers }
+        requires there { target < length self.old.ways }
         requires few { length self.old.outboxes < 2 ^ 16 }
-        ensures numbers { OnOk result (self.new.numbers ≡ set self.old.numbers target (length self.old.outboxes)) }
+        ensures ways { OnOk result (self.new.ways ≡ set self.old.ways target (length self.old.outboxes)) }
         ensures outboxes { OnOk result (self.new.outboxes ≡ self.old.outboxes ++ outbox.entry ∷ []) }
         ensures places { OnOk result (self.new.places ≡ self.old.places ++ places ∷ []) }
     {
-        self.numbers[target] = self.outboxes.len() as u16;
+        self.ways[target] = self.outboxes.len() as u16;
         self.outboxes.push(outbox)?;
         self.places.push(places)?;
         Ok(())
@@ -244,25 +245,25 @@ impl<'a, W: Named, M: Mailbox<W> + Drop> Ways<'a, W, M> {
 }
 
 /// The ways of all executors, in the order of these: one walk over the columns, whose senders and seats are given to them.
-/// `places` has by executor how many are reserved for each target.
+/// `places` has by executor and by target how many are reserved there.
 fn ways_of_all<'a, W: Named, M: Mailbox<W> + Drop>(
     alloc: Global,
     inboxes: &'a [Inbox<W, M>],
     columns: Vec<Column<W, M>>,
-    places: &[Places],
+    places: &[Vec<u16>],
 ) -> Result<Vec<Ways<'a, W, M>>, AllocError>
     requires few { length inboxes.now < 2 ^ 16 }
     requires deal { (lanes : LaneTable) × CanDealAll M.ends lanes (map inbox_view inboxes.now) columns.items places.now }
-    ensures count { IfOk result (λ all. length all.items ≡ length inboxes.now) }
-    ensures ways { IfOk result (λ all. (lanes : LaneTable) → CanDealAll M.ends lanes (map inbox_view inboxes.now) columns.items places.now → HaveWays lanes places.now (length lanes) all.items) }
+    ensures count { IfOk result (λ rows. length rows.items ≡ length inboxes.now) }
+    ensures ways { IfOk result (λ rows. (lanes : LaneTable) → CanDealAll M.ends lanes (map inbox_view inboxes.now) columns.items places.now → HaveWays lanes places.now (length lanes) rows.items) }
 {
-    let mut all = no_ways(alloc, inboxes)?;
+    let mut rows = no_ways(alloc, inboxes)?;
     let mut target = 0;
     for column in columns {
-        deal(&mut all, inboxes, target, column, places)?;
+        deal(&mut rows, inboxes, target, column, places)?;
         target += 1;
     }
-    Ok(all)
+    Ok(rows)
 }
 
 /// For each executor no way yet.
@@ -270,28 +271,28 @@ fn no_ways<'a, W: Named, M: Mailbox<W> + Drop>(
     alloc: Global,
     inboxes: &'a [Inbox<W, M>],
 ) -> Result<Vec<Ways<'a, W, M>>, AllocError>
-    ensures count { IfOk result (λ all. length all.items ≡ length inboxes.now) }
-    ensures none { IfOk result (λ all. All (λ ways. ways ≡ no_ways (length inboxes.now)) all.items) }
+    ensures count { IfOk result (λ rows. length rows.items ≡ length inboxes.now) }
+    ensures none { IfOk result (λ rows. All (λ ways. ways ≡ no_ways (length inboxes.now)) rows.items) }
 {
-    let mut all = Vec::with_capacity(alloc, inboxes.len())?;
+    let mut rows = Vec::with_capacity(alloc, inboxes.len())?;
     for _inbox in inboxes {
-        all.push(Ways::none(alloc, inboxes)?)?;
+        rows.push(Ways::none(alloc, inboxes)?)?;
     }
-    Ok(all)
+    Ok(rows)
 }
 
 /// Gives each executor that has a way to this target its sender and its seat there.
 fn deal<'a, W: Named, M: Mailbox<W> + Drop>(
-    all: &mut Vec<Ways<'a, W, M>>,
+    rows: &mut Vec<Ways<'a, W, M>>,
     inboxes: &'a [Inbox<W, M>],
     target: usize,
     column: Column<W, M>,
-    places: &[Places],
+    places: &[Vec<u16>],
 ) -> Result<(), AllocError>
     requires few { length inboxes.now < 2 ^ 16 }
-    requires deal { (lanes : LaneTable) × CanDeal M.ends lanes (map inbox_view inboxes.now) target column places.now all.old.items }
-    ensures count { OnOk result (length all.new.items ≡ length all.old.items) }
-    ensures ways { OnOk result ((lanes : LaneTable) → CanDeal M.ends lanes (map inbox_view inboxes.now) target column places.now all.old.items → HaveWays lanes places.now (target + 1) all.new.items) }
+    requires deal { (lanes : LaneTable) × CanDeal M.ends lanes (map inbox_view inboxes.now) target column places.now rows.old.items }
+    ensures count { OnOk result (length rows.new.items ≡ length rows.old.items) }
+    ensures ways { OnOk result ((lanes : LaneTable) → CanDeal M.ends lanes (map inbox_view inboxes.now) target column places.now rows.old.items → HaveWays lanes places.now (target + 1) rows.new.items) }
 {
     let Column {
         origins,
@@ -301,8 +302,8 @@ fn deal<'a, W: Named, M: Mailbox<W> + Drop>(
     let inbox = &inboxes[target];
     for ((origin, sender), seat) in origins.into_iter().zip(senders).zip(seats) {
         let origin = origin as usize;
-        let reserved = places[origin].for_target(target);
-        all[origin].add(target, Outbox::new(inbox, sender, seat), reserved)?;
+        let reserved = places[origin][target];
+        rows[origin].add(target, Outbox::new(inbox, sender, seat), reserved)?;
     }
     Ok(())
 }

@@ -38,20 +38,20 @@ struct Found<T: Transport> {
 }
 
 /// What became of each channel of the plan, and its stages, by the nodes that each of its executors has left.
-pub(crate) fn report_of<W: Planned, M: Mailbox<W> + Drop, S: Stage, T: Transport>(
+pub(crate) fn ran_of<W: Planned, M: Mailbox<W> + Drop, S: Stage, T: Transport>(
     alloc: Global,
-    all: Vec<Finished<W, M, ExecutorNodes<'_, S, T>>>,
+    finished: Vec<Finished<W, M, ExecutorNodes<'_, S, T>>>,
     channels: usize,
 ) -> Result<Ran<S>, AllocError>
     requires plan { IsPlan W.plan }
-    requires executors { map (λ e. e.nodes.number) all.items ≡ range_with_len 0 W.plan.executors }
+    requires executors { map (λ e. e.nodes.number) finished.items ≡ range_with_len 0 W.plan.executors }
     requires channels { channels ≡ length W.plan.channels }
     ensures ran { IfOk result (IsRan S.stands_after W.plan) }
 {
     let mut found = none_found(alloc, channels)?;
     let mut stages = empty_lists(alloc, channels)?;
-    for finished in all {
-        let ExecutorNodes { here, parts, .. } = finished.into_nodes();
+    for executor in finished {
+        let ExecutorNodes { here, parts, .. } = executor.into_nodes();
         find_nodes(alloc, &mut found, &mut stages, here, parts)?;
     }
     let report = Report {
@@ -107,10 +107,10 @@ fn find<S: Stage, T: Transport>(
     ensures ends { OnOk result (found.new ≡ with_part found.old part) }
     ensures stages { OnOk result (stages.new.items ≡ with_stages stages.old.items part) }
 {
-    let (own, tail, head) = part.into_nodes(alloc)?;
+    let (part_stages, tail, head) = part.into_stages_and_ends(alloc)?;
     found.tail = tail.or(found.tail.take());
     found.head = head.or(found.head.take());
-    let others = mem::replace(stages, own);
+    let others = mem::replace(stages, part_stages);
     add_stages(stages, others);
     Ok(())
 }
@@ -141,14 +141,14 @@ fn add_stage<S: Stage>(slot: &mut Option<KeptStage<S>>, other: Option<KeptStage<
 /// What became of channels whose ends were found.
 fn reports<W: Planned, T: Transport>(
     alloc: Global,
-    all: Vec<Found<T>>,
+    ends: Vec<Found<T>>,
 ) -> Result<Sequence<ChannelReport>, AllocError>
-    requires { AreLeft T.state W.plan all.items }
-    ensures ends { IfOk result (λ reports. AllZip (IsFinalReport T.state) all.items reports) }
+    requires { AreLeft T.state W.plan ends.items }
+    ensures ends { IfOk result (λ reports. AllZip (IsFinalReport T.state) ends.items reports) }
     ensures run { IfOk result (λ reports. IsRunReport W.plan (record { channels = reports })) }
 {
-    let mut reports = Vec::with_capacity(alloc, all.len())?;
-    for found in all {
+    let mut reports = Vec::with_capacity(alloc, ends.len())?;
+    for found in ends {
         let Found { tail, head } = found;
         reports.push(into_report(alloc, tail.unwrap(), head.unwrap())?)?;
     }

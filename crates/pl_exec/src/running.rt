@@ -1,28 +1,23 @@
 //! A session, run by executors on threads of their own.
 
-ghost use Rattle.std.specs.Prelude.{◌≡◌, ◌<◌, ◌≤◌, ℕ, IfOk, None, length, map, replicate, true};
-ghost use Rattle.pl_channel.specs.Lanes.{world_of};
+ghost use Rattle.std.specs.Prelude.{◌≡◌, ◌<◌, ◌≤◌, ℕ, IfOk, None, map, replicate};
 ghost use Rattle.pl_world.specs.declared.limits.TheConstants.{MAX_CAPACITY};
 ghost use Rattle.pl_world.specs.Plans.{planned};
 ghost use Rattle.pl_world.specs.Sessions.{plan_of};
-ghost use Rattle.pl_exec.specs.Opening.{CanOpenAll, lanes_in};
 ghost use Rattle.pl_exec.specs.Reported.{IsRunReport};
 ghost use Rattle.pl_exec.specs.RunStages.{IsRan};
 ghost use Rattle.pl_exec.specs.SessionWords.{AreHeadSeatsOf, AreNewlySeated, HaveMarksOf, recorded_marks};
-ghost use Rattle.pl_exec.specs.Starting.{AreReady, FitExecutors, IsRunOf};
-ghost use Rattle.pl_exec.specs.Telling.{plan_marks};
+ghost use Rattle.pl_exec.specs.Starting.{IsRunOf};
 
-use crate::lanes::{Leaving, lane_table};
-use crate::nodes::ExecutorNodes;
+use crate::lanes::lane_table;
 use crate::opening::{executors, open_all};
 use crate::planned::Planned;
-use crate::reporting::{Ran, report_of};
-use crate::sharing::{Places, channels_on, shares};
+use crate::reporting::{Ran, ran_of};
+use crate::sharing::{channels_on, shares};
 use crate::words::{HeadSeats, Seats, Words};
-use pl_channel::whole_parts;
+use pl_channel::{lane_count, places_between, whole_parts};
 use pl_event::Stage;
 use pl_head::{MemoryTransport, Transport};
-use pl_part::ChannelPart;
 use pl_queue::{Mailbox, RingBox, WaitingBox};
 use pl_stages::Handler;
 use pl_threads::{Gate, RunFault, run_all};
@@ -41,7 +36,11 @@ pub enum QueueKind {
     Ring,
 }
 
-/// Runs a session: each executor in a thread of its own.
+/// Runs a session: each executor in a thread of its own. All threads have ended when it answers; over the waiting queue it
+/// may wait for ever (`docs/FORMATS.md`, "Program").
+///
+/// Errors: `Memory`, where memory is refused for what the run is made of, or for the report; `Spawn`, where a thread could not
+/// be started: then no executor has made a turn.
 pub fn run<G: Gate + Sync, R: Threads + Wait + Sync>(
     rt: &R,
     alloc: Global,
@@ -82,7 +81,8 @@ pub fn run_with<G: Gate + Sync, R: Threads + Wait + Sync>(
     Ok(report)
 }
 
-/// Runs a world of any stages and transports, whose queues hold `capacity` items each, from 1 to `MAX_CAPACITY`.
+/// Runs a world of any stages and transports, whose queues hold `capacity` items each, from 1 to `MAX_CAPACITY`. It answers as
+/// `run` does.
 pub fn run_world<S: Stage + Send, T: Transport + Send, G: Gate + Sync, R: Threads + Wait + Sync>(
     rt: &R,
     alloc: Global,
@@ -218,33 +218,13 @@ where
     let count = world.executors() as usize;
     let parts = whole_parts(alloc, world.into_channels().into_vec())?;
     let channels = parts.len();
-    let (nodes, places, lanes) = share_out::<W, S, T>(alloc, words, seats, parts, count)?;
+    let data_lanes = lane_count(&parts);
+    let places = places_between(alloc, count, &parts)?;
+    let lanes = lane_table(alloc, &parts, count)?;
+    let rows = channels_on(alloc, count, &parts)?;
+    let nodes = shares(alloc, words, seats, parts, rows)?;
     let (inboxes, ends, columns) = open_all::<W, M>(alloc, lanes, capacity as usize)?;
-    let executors = executors(alloc, inboxes.as_slice(), ends, columns, nodes, places)?;
-    let all = run_all(rt, alloc, gate, executors)?;
-    Ok(report_of(alloc, all, channels)?)
-}
-
-/// Shares the channels of the plan out to so many executors: by executor its nodes, with these words and the seats of its
-/// heads, and its places; and the lanes between them.
-fn share_out<'a, W: Planned, S: Stage, T: Transport>(
-    alloc: Global,
-    words: &'a Words,
-    seats: Vec<Option<Seats>>,
-    parts: Vec<ChannelPart<S, T>>,
-    count: usize,
-) -> Result<(Vec<ExecutorNodes<'a, S, T>>, Vec<Places>, Vec<Vec<Leaving>>), AllocError>
-    requires world { W.world ≡ world_of true W.plan }
-    requires ready { AreReady S.meaning S.stands_after T.state W.plan parts.items }
-    requires executors { count ≡ W.plan.executors }
-    requires seats { AreNewlySeated words.now (map plan_marks W.plan.channels) seats.items }
-    ensures count { IfOk result (λ r. length r.0.items ≡ W.plan.executors) }
-    ensures fit { IfOk result (λ r. FitExecutors W.world W.plan S.meaning S.stands_after T.state (lanes_in r.2.items) r.0.items r.1.items) }
-    ensures open { IfOk result (λ r. CanOpenAll W.plan.capacity (lanes_in r.2.items)) }
-{
-    let lanes = lane_table(alloc, parts.as_slice(), count)?;
-    let places = Places::of_each(alloc, parts.as_slice(), count)?;
-    let here = channels_on(alloc, count, parts.as_slice())?;
-    let nodes = shares(alloc, words, seats, parts, here)?;
-    Ok((nodes, places, lanes))
+    let executors = executors(alloc, &inboxes, ends, columns, nodes, data_lanes, &places)?;
+    let finished = run_all(rt, alloc, gate, executors)?;
+    Ok(ran_of(alloc, finished, channels)?)
 }

@@ -1,21 +1,18 @@
 //! The nodes of all channels, each at its executor.
 
-ghost use Rattle.std.specs.Prelude.{◌≡◌, ◌<◌, ◌^◌, ◌∷◌, ◌++◌, [], All, cond, is_some, length, map, not, slice_get, IfOk, OnOk, Some};
+ghost use Rattle.std.specs.Prelude.{◌≡◌, ◌<◌, ◌^◌, ◌∷◌, ◌++◌, [], All, cond, is_some, length, map, not, IfOk, OnOk};
 ghost use Rattle.std.specs.List.{range_with_len};
 ghost use Rattle.pl_part.specs.Shares.{only_if};
-ghost use Rattle.pl_channel.specs.Ways.{ArePlaceable};
 ghost use Rattle.pl_exec.specs.ChannelRows.{IsChannelRow, row_position};
-ghost use Rattle.pl_exec.specs.Sharing.{AreNoted, AreRests, AreShared, HasShares, IsNoted, IsNotedAt, Gets, channels_on, places_of, rows_in};
+ghost use Rattle.pl_exec.specs.Sharing.{AreNoted, AreRests, AreShared, HasShares, IsNoted, IsNotedAt, Gets, channels_on, rows_in};
 
 use crate::lanes::empty_lists;
 use crate::nodes::ExecutorNodes;
 use crate::words::{Seats, Words};
-use pl_channel::{lane_count, places_between};
 use pl_event::Stage;
 use pl_head::Transport;
 use pl_part::{ChannelPart, take_where};
 use std::alloc::{AllocError, Global};
-use std::marker::Model;
 
 /// The nodes of these channels at their executors: each has its shares of the channels in its row, and the seats of those
 /// whose heads it has, where there are some.
@@ -62,7 +59,7 @@ fn nodes_on<'a, S: Stage, T: Transport>(
         parts: Vec::with_capacity(alloc, here.len())?,
         seats: Vec::with_capacity(alloc, here.len())?,
         here,
-        own: Vec::new(alloc),
+        heads: Vec::new(alloc),
         positions,
         was_refused: false,
         words,
@@ -98,18 +95,18 @@ fn add_share<S: Stage, T: Transport>(
     ensures left { OnOk result (seats.new ≡ only_if (not (is_some share.head)) seats.old) }
 {
     let has_head = share.head().is_some();
-    note_if(&mut nodes.own, nodes.parts.len(), has_head)?;
+    note_if(&mut nodes.heads, nodes.parts.len(), has_head)?;
     nodes.seats.push(take_where(seats, has_head))?;
     nodes.parts.push(share)?;
     Ok(())
 }
 
-/// Notes a position where it is wanted.
-fn note_if(own: &mut Vec<usize>, position: usize, wanted: bool) -> Result<(), AllocError>
-    ensures { OnOk result (own.new.items ≡ own.old.items ++ cond wanted (position ∷ []) []) }
+/// Notes a position where it is wanted. It asks by itself, so that what is noted beside it goes one way.
+fn note_if(heads: &mut Vec<usize>, position: usize, wanted: bool) -> Result<(), AllocError>
+    ensures { OnOk result (heads.new.items ≡ heads.old.items ++ cond wanted (position ∷ []) []) }
 {
     if wanted {
-        own.push(position)?;
+        heads.push(position)?;
     }
     Ok(())
 }
@@ -164,46 +161,4 @@ fn note_once(row: &mut Vec<usize>, channel: usize) -> Result<(), AllocError>
     }
     row.push(channel)?;
     Ok(())
-}
-
-/// The places that are reserved for lanes that stop: on an executor's work list, and for what waits for each executor.
-#[derive(Drop)]
-pub(crate) struct Places {
-    pub(crate) work: u16,
-    targets: Vec<u16>,
-}
-
-impl Model for Places {
-    ghost use Rattle.pl_exec.specs.Opening.{PlacesView};
-
-    ghost Value = { PlacesView };
-
-    ghost view = { λ p. record { work = p.work; targets = p.targets.items } };
-}
-
-impl Places {
-    /// Those of each of so many executors.
-    pub(crate) fn of_each<S: Stage, T: Transport>(
-        alloc: Global,
-        parts: &[ChannelPart<S, T>],
-        count: usize,
-    ) -> Result<Vec<Places>, AllocError>
-        requires { ArePlaceable parts.now }
-        ensures { IfOk result (λ places. places.items ≡ places_of parts.now count) }
-    {
-        let work = lane_count(parts);
-        let mut all = Vec::with_capacity(alloc, count)?;
-        for targets in places_between(alloc, count, parts)? {
-            all.push(Places { work, targets })?;
-        }
-        Ok(all)
-    }
-
-    /// How many are reserved for what waits for a target.
-    pub(crate) fn for_target(&self, target: usize) -> u16
-        requires { target < length self.now.targets }
-        ensures { slice_get self.now.targets target ≡ Some result }
-    {
-        self.targets[target]
-    }
 }

@@ -97,7 +97,7 @@ impl Model for HeadSeats {
 }
 
 impl HeadSeats {
-    /// By channel its seats.
+    /// By channel its seats: here each has some, and in a run without words none.
     pub(crate) fn by_channel(self, alloc: Global) -> Result<Vec<Option<Seats>>, AllocError>
         ensures each { IfOk result (λ seats. seats.items ≡ map (λ s. Some s) self) }
         ensures unused { IfOk result (λ seats. AreUnused self) }

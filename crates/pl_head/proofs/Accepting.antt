@@ -1,5 +1,6 @@
 -- A write that is idle, and one of which the transport accepts so many bytes.
 use Rattle.std.proofs.Common.{◌≡◌, ◌≢◌, ◌↔◌, ℕ, ◌-◌, ◌<◌, ◌≤◌, min, List, [], ◌∷◌, ◌++◌, length, take, drop, Bool, true, false, nat_eq, nat_le, Option, Some, None, is_some, ◌||◌, append-nil, ap, sym, ◌∙◌, refl, arith, rules, append_assoc}
+use Rattle.std.specs.Prelude.{IsSome}
 use Rattle.std.proofs.lemmas.List.{take-append-drop}
 use Rattle.std.proofs.lemmas.Bool.Decides.{nat_tests}
 use Rattle.std.proofs.lemmas.Grind.{common_steps}
@@ -13,7 +14,7 @@ use Rattle.pl_head.specs.MarksStand.{SendsFlags}
 use Rattle.pl_head.specs.Writes.{out, bytes_offered, flushed_writes, waiting_bytes}
 use Rattle.pl_head.specs.Buffers.{OutboundBufferView, BufferStands, SameMarks, SettlesMore}
 use Rattle.pl_event.specs.declared.outcomes.Cause.{Cause}
-use Rattle.pl_head.specs.HeadStand.{HeadView, HeadStandsAfter, HasFewFlags, BufferAfter, step_sizes, first_cause}
+use Rattle.pl_head.specs.HeadStand.{HeadView, HeadStandsAfter, is_idle, HasFewFlags, BufferAfter, step_sizes, first_cause}
 use Rattle.pl_head.specs.HeadCalls.{HeadWrites}
 use Rattle.pl_head.specs.Transports.{TransportState, one_call_more, FailsNext}
 use Rattle.pl_head.proofs.Rising.{goes_on-same}
@@ -35,7 +36,7 @@ accepted_some accepted bytes rest whole n e =
 pub all_left : (accepted whole : List ℕ) → accepted ≡ whole → nat_le (length whole) (length accepted) ≡ true
 all_left accepted whole e = sym (none_waits accepted [] whole refl (append-nil accepted ∙ e)).1
 
-idle_after : (failure : Option Cause) (accepted : List ℕ) (b : OutboundBufferView) (ys zs : List Event) (ended : Bool) (sizes : List Change) → BufferAfter failure accepted b ys zs ended sizes
+pub idle_after : (failure : Option Cause) (accepted : List ℕ) (b : OutboundBufferView) (ys zs : List Event) (ended : Bool) (sizes : List Change) → BufferAfter failure accepted b ys zs ended sizes
     → (BufferStands accepted b ys ended sizes → nat_le (length (out ys)) (length accepted) ≡ true) → (is_some failure || nat_le (length (out ys)) (length accepted)) ≡ true
 idle_after None accepted b ys zs ended sizes s written = written s.1
 idle_after (Some cause) accepted b ys zs ended sizes s written = refl
@@ -46,11 +47,9 @@ first_stays (Some cause) = refl
 
 -- where no flushed byte waits, a write is idle, and leaves the head as it is
 pub idles : {T : Type 0} (state : T → TransportState) (may_refuse : T → ℕ → Type 0) (h : HeadView T) (outputs : OutputsView) → HasFewFlags h
-    → ((ys : List Event) (sizes : List Change) → BufferStands (state h.transport).accepted h.buffer ys (is_over h.standing) sizes → nat_le (length (out ys)) (length (state h.transport).accepted) ≡ true)
+    → ((ys zs : List Event) (sizes : List Change) → HeadStandsAfter state h ys zs sizes → is_idle state h ys ≡ true)
     → HeadWrites state may_refuse h outputs Idle h outputs
-idles state may_refuse h outputs few written =
-    let idle = λ (ys zs : List Event) (sizes : List Change) (s : HeadStandsAfter state h ys zs sizes). idle_after h.failure (state h.transport).accepted h.buffer ys zs (is_over h.standing) sizes s (written ys sizes) in
-    search (rules, idle, first_stays, goes_on-same, few)
+idles state may_refuse h outputs few idle = search (rules, idle, first_stays, goes_on-same, few)
 
 not_idle : (failure : Option Cause) {written : Bool} → is_some failure ≡ false → written ≡ false → (is_some failure || written) ≡ true → ⊥
 not_idle None none waits e = cc (waits, e)
@@ -64,9 +63,11 @@ waits_for failure accepted b ys zs ended sizes bytes size none called offers s =
     let left = offers (unfailed failure accepted b ys zs ended sizes none s) in
     (λ e. absurd (called e), λ e. absurd (not_idle failure none (sym (some_waits bytes left.2.0 (bytes ++ left.2.0) accepted (out ys) refl left.0 left.2.1).1) e))
 
-pub unless_failed : (failure : Option Cause) {written : Bool} → is_some failure ≡ false → written ≡ (is_some failure || written)
-unless_failed None none = refl
-unless_failed (Some cause) none = cc none
+-- an answer of the buffer, which has none flushed once the head has failed
+pub idle_or_failed : (failure : Option Cause) (accepted : List ℕ) (b : OutboundBufferView) (ys zs : List Event) (ended : Bool) (sizes : List Change) {answer : Bool} → BufferAfter failure accepted b ys zs ended sizes
+    → (IsSome failure → answer ≡ true) → (BufferStands accepted b ys ended sizes → answer ≡ nat_le (length (out ys)) (length accepted)) → answer ≡ (is_some failure || nat_le (length (out ys)) (length accepted))
+idle_or_failed None accepted b ys zs ended sizes s failed stands = stands s.1
+idle_or_failed (Some cause) accepted b ys zs ended sizes s failed stands = failed refl
 
 -- ---- the transport accepts so many of the bytes that it is offered
 

@@ -203,6 +203,14 @@ module _ (entries : List Entry) (offset count : ℕ) (outcomes : List (Option Ou
         let here : bytes_of s.mid ≡ first.bytes ++ bytes_of (past_first s.mid) = rw same f.bytes in
         (bytes_of (past_first s.mid), sym (drop-append-le offset first.bytes (bytes_of (past_first s.mid)) fits) ∙ ap (λ (t : List ℕ). drop offset t) (sym here) ∙ s.rest)
 
+-- a flushed message waits, so a byte is left
+pub some_left : (entries : List Entry) (offset count : ℕ) (outcomes : List (Option Outcome)) (flushed unflushed : List (Option (List ℕ))) (left : List ℕ) (ended : Bool)
+    → MessagesStand entries offset count outcomes flushed unflushed left ended → 0 < count → offset < first_size entries → 0 < length left
+some_left [] offset count outcomes flushed unflushed left ended s h rests = absurd (omega (arith, rests))
+some_left (first ∷ entries) offset count outcomes flushed unflushed left ended s h rests =
+    let found = front_first (first ∷ entries) offset count outcomes flushed unflushed left ended first s h refl (omega (arith, rests)) in
+    omega (arith, rests, ap (λ (t : List ℕ). length t) found.1, length-append (drop offset first.bytes) found.0, length-drop offset first.bytes)
+
 -- a message that has left whole is settled
 pub settles : (first : Entry) (entries : List Entry) (offset count : ℕ) (outcomes : List (Option Outcome)) (flushed unflushed : List (Option (List ℕ))) (left : List ℕ) (ended : Bool)
     → MessagesStand (first ∷ entries) offset count outcomes flushed unflushed left ended → 0 < count → offset ≡ length first.bytes

@@ -1,5 +1,5 @@
 -- What a write to the transport leaves.
-use Rattle.std.proofs.Common.{◌≡◌, ℕ, ◌<◌, List, [], ◌++◌, length, true, false, nat_lt, nat_le, ap, arith, length-append}
+use Rattle.std.proofs.Common.{◌≡◌, ℕ, zero, suc, ◌<◌, List, [], ◌++◌, length, true, false, nat_eq, nat_lt, nat_le, ap, ◌∙◌, refl, arith, append-nil, length-append}
 use Rattle.std.proofs.lemmas.Bool.Decides.{nat_tests}
 
 -- nothing is left, so no byte waits
@@ -20,3 +20,10 @@ some_waits bytes rest left accepted whole split some e =
   where
     tests : (m n : ℕ) → m < n → (true ≡ nat_lt m n) × (false ≡ nat_le n m)
     tests m n h = (grind (arith, nat_tests), grind (arith, nat_tests))
+
+-- no flushed message waits, or one does, and a byte of it is left
+pub flushed_waits : (count : ℕ) (accepted left whole : List ℕ) → (count ≡ 0 → left ≡ []) → (0 < count → 0 < length left) → accepted ++ left ≡ whole → nat_eq count 0 ≡ nat_le (length whole) (length accepted)
+flushed_waits zero accepted left whole none some e = (none_waits accepted left whole (none refl) e).1
+flushed_waits (suc n) accepted left whole none some e =
+    let test : nat_eq (suc n) 0 ≡ false = grind (arith, nat_tests) in
+    test ∙ (some_waits left [] left accepted whole (append-nil left) (some (omega arith)) e).1

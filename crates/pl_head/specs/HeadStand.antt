@@ -1,5 +1,5 @@
 -- What contracts see of a head, and the events and sizes after which it may stand.
-use Rattle.std.specs.Prelude.{◌≡◌, ◌⊎◌, ℕ, ◌+◌, ◌*◌, ◌-◌, ◌≤◌, ◌^◌, List, [], ◌∷◌, ◌++◌, length, Bool, true, false, ◌||◌, ◌&&◌, not, is_some, nat_le, Option, Some, None, if◌then◌else◌, ◌==◌}
+use Rattle.std.specs.Prelude.{◌≡◌, ◌⊎◌, ℕ, ◌+◌, ◌*◌, ◌-◌, ◌≤◌, ◌^◌, List, [], ◌∷◌, ◌++◌, length, Bool, true, false, ◌||◌, ◌&&◌, not, is_some, nat_le, Option, Some, None, IsSome, if◌then◌else◌, ◌==◌}
 use Rattle.pl_event.specs.Hops.{data_lane, flags_lane}
 use Rattle.pl_event.specs.declared.elements.Element.{Element}
 use Rattle.pl_event.specs.declared.events.Event.{Event}
@@ -206,5 +206,6 @@ pub record IsHead (channel taken : ℕ) (failure : Option Cause) (is_closed : Bo
   pub few_flags : b.flags.made + (if b.is_unwritable then 1 else 0) ≤ 2 * taken
   pub numbering : failure ≡ None → b.is_full ≡ false
   pub closed : failure ≡ None → is_closed ≡ false
+  pub nothing_flushed : IsSome failure → b.flushed ≡ 0
   pub settled : AreSettled b.settled b.outcomes
   pub told : b.told ≤ length b.settled

@@ -90,7 +90,8 @@ impl<T: Transport> Head<T> {
     ghost use Rattle.pl_head.specs.HeadStand.{HeadStandsAfter, HasOutcomes, ReadsStand, Aborts, waiting_at, is_idle, is_read_held, read_answer, EntersHead, lane_over, Answers, events_before, events_from, item_sizes, step_sizes, standing_after, cause_of_item, cause_of_step, head_cause, HasFewFlags};
 
     /// A head that has taken nothing, of a transport that has accepted nothing, with the bursts that it is to read: with
-    /// the end they bring fewer than 2^31 items. `hop` is the head's own hop. It takes no memory.
+    /// the end they bring fewer than 2^31 items. `hop` is the head's own hop. The marks `low` and `high` are in bytes, `low`
+    /// at most `high`. It takes no memory.
     pub fn new(
         alloc: Global,
         channel: u16,
@@ -337,14 +338,10 @@ impl<T: Transport> Head<T> {
         requires places { HasPlaces outputs.old.stopped (flags_lane self.old.channel 0 ∷ []) }
         ensures { HeadWrites T.state T.may_refuse self.old outputs.old result self.new outputs.new }
     {
-        if self.failure.is_some() {
+        if self.is_written() {
             return OutStep::Idle;
         }
-        if self.buffer.is_written() {
-            OutStep::Idle
-        } else {
-            self.write_current(outputs)
-        }
+        self.write_current(outputs)
     }
 
     /// The same of one that has not failed by itself. Mostly nothing waits, so that look is inlined, and this is not.
@@ -493,15 +490,13 @@ impl<T: Transport> Head<T> {
     pub fn is_written(&self) -> bool
         ensures stands { (ys zs : List Event) (sizes : List Change) → HeadStandsAfter T.state self.now ys zs sizes → result ≡ is_idle T.state self.now ys }
         ensures failed { IsSome self.now.failure → result ≡ true }
+        ensures few { HasFewFlags self.now }
     {
-        if self.failure.is_some() {
-            return true;
-        }
         self.buffer.is_written()
     }
 
     /// Copies of the bytes that the transport accepted, and of the outcome of each write by its number: None for one that
-    /// waits.
+    /// waits. An `Err` is out of memory.
     pub fn copies(
         &self,
         alloc: Global,

@@ -5,9 +5,9 @@ ghost use Rattle.pl_event.specs.Inputs.{burst_events, recorded_input};
 ghost use Rattle.pl_context.specs.Stops.{HasPlaces};
 ghost use Rattle.pl_context.specs.OutputsViews.{PutsAll};
 ghost use Rattle.pl_event.specs.declared.envelopes.Item.TheVariants as item;
-ghost use Rattle.pl_context.specs.Ports.{as_items, numbered, offered, port_after};
+ghost use Rattle.pl_context.specs.Ports.{as_items, numbered, offered};
 ghost use Rattle.pl_head.specs.ReadSteps.{chunk_burst, chunk_plan, step_items, is_burst, is_abort, bursts_before, bursts_read, has_step};
-ghost use Rattle.pl_head.specs.InputStand.{InputStands, InputFeeds, new_input, next_items, left_after, burst_next, abort_next, last_next, input_after_step, failed_input, items_left, steps_left, takes_bursts};
+ghost use Rattle.pl_head.specs.InputStand.{InputStands, InputFeeds, new_input, next_items, burst_next, abort_next, input_after_step, failed_input, items_left, steps_left, takes_bursts};
 ghost use Rattle.pl_event.specs.declared.limits.TheConstants.{MAX_ITEMS};
 
 use pl_context::{Outputs, Port};
@@ -17,7 +17,7 @@ use std::collections::VecDeque;
 use std::marker::Model;
 
 /// What a channel is to read: bursts of elements, and then the end; or, where it is aborted, as many of them as are to be
-/// read before the abort. A count past the last burst counts as all.
+/// read before the abort. A count past the last burst counts as all. Its limits are `World`'s (`pl_world::input_fits`).
 #[derive(Debug, Drop)]
 pub struct ReadPlan {
     pub bursts: Sequence<Sequence<Element>>,
@@ -53,12 +53,13 @@ fn chunk_burst(alloc: Global, chunks: &[&[u8]]) -> Result<Sequence<Element>, All
 
 /// The recorded input of a channel: what is left of it, and the lane of the first hop, to which it is given.
 ///
-/// It takes no memory of its own: the bytes of each chunk are moved into its event.
+/// The bytes of each chunk are moved into its event.
 #[derive(Debug, Drop)]
 pub(crate) struct Input {
     port: Port,
     /// The bursts that are left.
     left: VecDeque<Sequence<Element>>,
+    /// How many read steps were made, without the abort.
     steps: u64,
     /// An abort comes after the bursts, in the place of the end.
     aborts: bool,
@@ -144,8 +145,16 @@ impl Input {
         ensures stands { (p : ReadPlan) (reads : ℕ) (failed : Bool) → InputStands p reads failed self.old → InputStands p (reads + 1) failed self.new }
         ensures items { (p : ReadPlan) (reads : ℕ) (failed : Bool) → InputStands p reads failed self.old → next_items self.old.steps self.old.left ≡ step_items (bursts_read p) reads }
     {
-        put_next(&mut self.port, &mut self.left, self.steps, outputs);
+        let steps = self.steps;
         self.steps += 1;
+        if steps == 0 {
+            self.port.put(Item::Event(Event::Active), outputs);
+            return;
+        }
+        match self.left.pop_front() {
+            Some(elements) => put_burst(&mut self.port, elements.into_vec(), outputs),
+            None => self.port.put(Item::End, outputs),
+        }
     }
 
     /// One burst more is to be read, behind those that are left and before the end. An `Err` changes nothing.
@@ -182,30 +191,6 @@ fn bursts_before(
         left.truncate(count as usize);
     }
     left
-}
-
-/// Gives the items of the next read step to a lane.
-fn put_next(
-    port: &mut Port,
-    left: &mut VecDeque<Sequence<Element>>,
-    steps: u64,
-    outputs: &mut Outputs,
-)
-    requires open { port.old.is_open ≡ true }
-    requires place { HasPlaces outputs.old.stopped (port.old.lane ∷ []) }
-    requires few { port.old.made + items_left steps left.old.items < MAX_ITEMS }
-    ensures port { port.new ≡ port_after (next_items steps left.old.items) port.old }
-    ensures left { left.new.items ≡ left_after steps left.old.items }
-    ensures puts { PutsAll outputs.old (numbered port.old.lane port.old.made (next_items steps left.old.items)) outputs.new }
-{
-    if steps == 0 {
-        port.put(Item::Event(Event::Active), outputs);
-        return;
-    }
-    match left.pop_front() {
-        Some(elements) => put_burst(port, elements.into_vec(), outputs),
-        None => port.put(Item::End, outputs),
-    }
 }
 
 /// Gives a burst to a lane: its elements in order, a chunk as a read and a user event as it is, and then its completion.

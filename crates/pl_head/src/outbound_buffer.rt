@@ -108,6 +108,7 @@ impl OutboundBuffer {
         ensures err_flags { OnErr result ((accepted : List ℕ) (ys : List Event) (sizes : List Change) → BufferStands accepted (buffer_view self.old) ys false sizes
             → SendsFlags self.old.marks.low self.old.marks.high sizes (Removed (waiting_bytes ys (length accepted) false) ∷ []) self.old.marks.flags outputs.old self.new.marks.flags outputs.new) }
         ensures err_full { OnErr result (LacksRoom event (buffer_view self.old)) }
+        ensures err_flushed { OnErr result (self.new.flushed ≡ 0) }
         ensures takes_in { TakesIn self.old self.new }
     {
         let Err(refusal) = self.add(event, outputs) else {
@@ -177,6 +178,7 @@ impl OutboundBuffer {
         ensures same { SameMarks (buffer_view self.old) (buffer_view self.new) }
         ensures settles { SettlesMore (buffer_view self.old) (buffer_view self.new) }
         ensures marks { self.new.marks ≡ self.old.marks }
+        ensures flushed { self.new.flushed ≡ self.old.flushed }
     {
         let Some(outcome) = late_outcome(event, outcome) else {
             return;
@@ -271,6 +273,7 @@ impl OutboundBuffer {
         ensures flags { (accepted : List ℕ) (ys : List Event) (ended : Bool) (sizes : List Change) → BufferStands accepted (buffer_view self.old) ys ended sizes
             → SendsFlags self.old.marks.low self.old.marks.high sizes (Removed (waiting_bytes ys (length accepted) ended) ∷ []) self.old.marks.flags outputs.old self.new.marks.flags outputs.new }
         ensures takes_out { TakesOut self.old self.new }
+        ensures flushed { self.new.flushed ≡ 0 }
         ensures outcome_place { HasPlace self.old → HasPlace self.new }
         ensures places { (lanes : List Lane) → HasPlaces outputs.old.stopped lanes → AreAmong (self.old.marks.flags.lane ∷ []) lanes → HasPlaces outputs.new.stopped lanes }
     {
@@ -422,12 +425,10 @@ impl OutboundBuffer {
 
     /// Whether no flushed byte waits.
     pub(crate) fn is_written(&self) -> bool
-        ensures { (accepted : List ℕ) (ys : List Event) (ended : Bool) (sizes : List Change) → BufferStands accepted (buffer_view self.now) ys ended sizes → result ≡ nat_le (length (out ys)) (length accepted) }
+        ensures stands { (accepted : List ℕ) (ys : List Event) (ended : Bool) (sizes : List Change) → BufferStands accepted (buffer_view self.now) ys ended sizes → result ≡ nat_le (length (out ys)) (length accepted) }
+        ensures none { self.now.flushed ≡ 0 → result ≡ true }
     {
-        match self.current() {
-            None => true,
-            Some(_) => false,
-        }
+        self.flushed == 0
     }
 
     /// The first settled write that was not told yet. It takes no memory.
@@ -534,7 +535,7 @@ fn settle_from(
     size
 }
 
-/// How many of the numbers up to a place are this one or more.
+/// How many of the numbers before an index are this one or more.
 fn count_from(numbers: &[usize], end: usize, first: usize) -> usize
     requires within { end ≤ length numbers.now }
     ensures { result ≡ length (numbers_from first (take end numbers.now)) }
@@ -568,17 +569,17 @@ fn keep_from(numbers: &mut Vec<usize>, first: usize)
     numbers.truncate(kept);
 }
 
-/// Moves the number at a place behind those that were kept, where it is kept, and answers how many are.
-fn keep_one(numbers: &mut Vec<usize>, kept: usize, place: usize, first: usize) -> usize
-    requires before { kept ≤ place }
-    requires within { place < length numbers.old.items }
+/// Moves the number at an index behind those that were kept, where it is kept, and answers how many are.
+fn keep_one(numbers: &mut Vec<usize>, kept: usize, index: usize, first: usize) -> usize
+    requires before { kept ≤ index }
+    requires within { index < length numbers.old.items }
     ensures most { result ≤ kept + 1 }
-    ensures kept { take result numbers.new.items ≡ take kept numbers.old.items ++ numbers_from first (slice_index numbers.old.items place ∷ []) }
-    ensures left { drop (place + 1) numbers.new.items ≡ drop (place + 1) numbers.old.items }
+    ensures kept { take result numbers.new.items ≡ take kept numbers.old.items ++ numbers_from first (slice_index numbers.old.items index ∷ []) }
+    ensures left { drop (index + 1) numbers.new.items ≡ drop (index + 1) numbers.old.items }
     ensures length { length numbers.new.items ≡ length numbers.old.items }
     ensures capacity { vec_capacity numbers.new ≡ vec_capacity numbers.old }
 {
-    let number = numbers[place];
+    let number = numbers[index];
     if number < first {
         return kept;
     }

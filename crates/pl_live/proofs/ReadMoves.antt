@@ -9,8 +9,8 @@ use Rattle.pl_event.specs.Meaning.{Meaning}
 use Rattle.pl_event.specs.Worlds.{World}
 use Rattle.pl_event.proofs.Lists.{some-of}
 use Rattle.pl_context.specs.WaitingViews.{Entry}
-use Rattle.pl_flow.specs.declared.moves.HeadMove.{HeadMove}
-use Rattle.pl_flow.specs.declared.moves.HeadMove.TheVariants as by
+use Rattle.pl_flow.specs.declared.head_moves.HeadMove.{HeadMove}
+use Rattle.pl_flow.specs.declared.head_moves.HeadMove.TheVariants as by
 use Rattle.pl_head.specs.HeadStand.{HeadView, is_idle, is_read_held}
 use Rattle.pl_head.specs.InputStand.{InputView, fed_plan, steps_left}
 use Rattle.pl_head.proofs.FedPlans.{count}

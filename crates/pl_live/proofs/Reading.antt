@@ -11,7 +11,7 @@ use Rattle.pl_event.specs.Inputs.{Bursts}
 use Rattle.pl_event.specs.Meaning.{Meaning}
 use Rattle.pl_event.proofs.Lists.{some-of}
 use Rattle.pl_context.specs.OutputsViews.{OutputsView}
-use Rattle.pl_flow.specs.declared.moves.HeadMove.TheVariants as by
+use Rattle.pl_flow.specs.declared.head_moves.HeadMove.TheVariants as by
 use Rattle.pl_head.specs.declared.heads.OutStep.{OutStep}
 use Rattle.pl_head.specs.declared.heads.OutStep.TheVariants as step
 use Rattle.pl_head.specs.declared.heads.ReadStep.TheVariants as reading

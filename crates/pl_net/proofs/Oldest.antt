@@ -161,11 +161,11 @@ module _ {N : Type 0} (view_of : N → NodesView) (stands : World → N → Type
         | inr past ↦ absurd (omega (arith, past.0, within))
       ]
 
+-- and what is found is the target of the oldest that can go
+module _ {N : Type 0} (view_of : N → NodesView) (stands : World → N → Type 0) (world : World) (x : ℕ) (c : StationsView N) (h : StationsStand view_of stands world x c)
+    (o capacity : ℕ) (answer : Option ℕ) (is-found : answer ≡ option_map (λ (z : Entry (Unit {0})). z.target) (find (λ z. has_room c.stations capacity z.target) (c.backlogs o))) where
   pub hand-oldest : (t : ℕ) → answer ≡ Some t → IsOldest (has_room c.stations capacity) (c.backlogs o) t
-  hand-oldest t is = oldest-found (has_room c.stations capacity) (c.backlogs o) t (sym is ∙ found)
-
-  pub hand-none : answer ≡ None → position (λ (z : Entry (Unit {0})). has_room c.stations capacity z.target) (c.backlogs o) ≡ None
-  hand-none is = none-open (has_room c.stations capacity) (c.backlogs o) (sym is ∙ found)
+  hand-oldest t is = oldest-found (has_room c.stations capacity) (c.backlogs o) t (sym is ∙ is-found)
 
   pub hand-there : (t : ℕ) → answer ≡ Some t → t < length c.stations
   hand-there t is = let p = hand-oldest t is in entry-there world (view_of c.nodes) x c.stations c.backlogs c.work h.runs o t p.i p.entry p.own_at p.is p.target

@@ -13,7 +13,7 @@ use Rattle.pl_context.specs.WaitingViews.{Entry, stops_for, is_for}
 use Rattle.pl_flow.specs.Flows.{Point, point, on, IsGood}
 use Rattle.pl_flow.specs.LanesViews.{LanesView}
 use Rattle.pl_flow.specs.Makes.{Makes}
-use Rattle.pl_flow.specs.declared.moves.HeadMove.{HeadMove}
+use Rattle.pl_flow.specs.declared.head_moves.HeadMove.{HeadMove}
 use Rattle.pl_net.specs.NodesViews.{NodesView, written_by, NodesTake, NodesGive, NodesMake, HeadGives}
 use Rattle.pl_net.specs.Nets.{queue_at, LaneStands, IsStart, no_backlogs, StationView, IsAdded, IsTakenOut, StationsView, StationsStand, IsCall, IsKeep, IsStep, WorksListOff, Gives, AbortsHead, HandsOver}
 use Rattle.pl_net.proofs.OneExecutor.{Replaces}

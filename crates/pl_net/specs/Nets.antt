@@ -10,7 +10,7 @@ use Rattle.pl_context.specs.OutputsViews.{OutputsView, added_items}
 use Rattle.pl_context.specs.WaitingViews.{WaitingView, Entry, Holds, WaitingAdds, Takes, stops_for}
 use Rattle.pl_flow.specs.Flows.{Point, point, on, IsFlow, past}
 use Rattle.pl_flow.specs.LaneRuns.{LaneRuns}
-use Rattle.pl_flow.specs.declared.moves.HeadMove.{HeadMove}
+use Rattle.pl_flow.specs.declared.head_moves.HeadMove.{HeadMove}
 use Rattle.pl_net.specs.NodesViews.{NodesView, written_by}
 
 -- What waits at an executor. It was handed over to it and not taken; or it was made there for others, and not handed

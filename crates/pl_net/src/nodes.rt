@@ -6,7 +6,7 @@ ghost use Rattle.pl_event.specs.Worlds.{World};
 ghost use Rattle.pl_context.specs.OutputsViews.{OutputsView};
 ghost use Rattle.pl_context.specs.Stops.{HasPlaces};
 ghost use Rattle.pl_flow.specs.Flows.{IsGood};
-ghost use Rattle.pl_flow.specs.declared.moves.HeadMove.{HeadMove};
+ghost use Rattle.pl_flow.specs.declared.head_moves.HeadMove.{HeadMove};
 ghost use Rattle.pl_net.specs.NodesViews.{NodesView, NodesTake, NodesMake, HeadGives};
 
 use pl_context::Outputs;

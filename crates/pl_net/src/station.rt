@@ -53,10 +53,10 @@ impl Station {
     }
 
     /// The item at a position among those of its backlog for an executor, counted from the oldest: None past the last.
-    pub fn backlog_at(&self, target: usize, place: usize) -> Option<&Envelope>
-        ensures { (entries : List (Entry Unit)) → Holds self.now.waiting entries → option_copied result ≡ slice_get (map (λ entry. entry.envelope) (filter (is_for target) entries)) place }
+    pub fn backlog_at(&self, target: usize, index: usize) -> Option<&Envelope>
+        ensures { (entries : List (Entry Unit)) → Holds self.now.waiting entries → option_copied result ≡ slice_get (map (λ entry. entry.envelope) (filter (is_for target) entries)) index }
     {
-        self.waiting.get(target, place)
+        self.waiting.get(target, index)
     }
 
     /// How many items of its backlog are for an executor.

@@ -228,12 +228,10 @@ impl<N: Nodes + Drop> Stations<N> {
         ensures capacity { self.new.capacity ≡ self.old.capacity }
         ensures count { vec_len self.new.stations ≡ vec_len self.old.stations }
     {
-        match oldest_target(&self.stations, me, self.capacity) {
+        match self.next_target(me) {
             None => Ok(false),
             Some(target) => {
-                if let Err(refused) = self.stations[target].reserve() {
-                    return Err(refused);
-                }
+                self.stations[target].reserve()?;
                 self.hand_to(me, target);
                 Ok(true)
             }

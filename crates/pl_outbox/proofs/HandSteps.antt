@@ -1,20 +1,15 @@
 -- Offers, one after another, until one is taken.
-use Rattle.std.proofs.Common.{◌≡◌, ℕ, Bool, true, false, not, List, refl, ap, sym, subst, ◌∙◌}
+use Rattle.std.proofs.Common.{◌≡◌, ℕ, Bool, not, List, ap, sym, ◌∙◌}
 use Rattle.std.specs.List.{find}
 use Rattle.std.specs.Option.{option_map}
 use Rattle.pl_context.specs.WaitingViews.{Entry}
 use Rattle.pl_queue.specs.declared.views.SenderView.{SenderView}
 use Rattle.pl_queue.specs.Views.{after_offer}
 use Rattle.pl_words.specs.Admissions.{AdmittedView}
-use Rattle.pl_outbox.specs.declared.outboxes.Offered.{Offered}
-use Rattle.pl_outbox.specs.declared.outboxes.Offered.TheVariants.{Handed, Full, Nothing}
-use Rattle.pl_outbox.specs.OutboxViews.{OutboxesView, was_tried, oldest_untried, KeepsAll, Sends, Offers, Stays}
+use Rattle.pl_outbox.specs.OutboxViews.{OutboxesView, was_tried, oldest_untried, KeepsAll, Sends, Stays}
 
 pub untried-same : (o o' : OutboxesView) (entries : List (Entry AdmittedView)) → ((y : ℕ) → was_tried o' y ≡ was_tried o y) → oldest_untried o' entries ≡ oldest_untried o entries
 untried-same o o' entries same = ap (λ (f : ℕ → Bool). option_map (λ (e : Entry AdmittedView). e.target) (find (λ e. not (f e.target)) entries)) (λ i y. same y i)
-
-keeps-none : (o : OutboxesView) → KeepsAll o o
-keeps-none o = record { each = λ y. record { waits = refl; sends = refl }; holds = λ entries holds. holds }
 
 pub keeps-then : (o p q : OutboxesView) → KeepsAll o p → KeepsAll p q → KeepsAll o q
 keeps-then o p q f g = record {
@@ -32,11 +27,6 @@ stays-then o p q f g = record {
   closed = λ seen. g.closed (f.closed seen);
   made = g.made ∙ f.made;
 }
-
-pub offer-keeps : (o o' : OutboxesView) (way : ℕ) (result : Offered) → (result ≡ Handed → ⊥) → Offers o way result o' → KeepsAll o o'
-offer-keeps o o' way Handed not_handed offers = absurd (not_handed refl)
-offer-keeps o o' way Full not_handed offers = offers
-offer-keeps o o' way Nothing not_handed offers = subst (λ (v : OutboxesView). KeepsAll o v) (sym offers.0) (keeps-none o)
 
 -- nothing had moved before the first was sent
 pub sends-first : (o p q : OutboxesView) (way : ℕ) → KeepsAll o p → Sends p way q → Sends o way q

@@ -16,9 +16,8 @@ use Rattle.pl_context.proofs.WaitingCalls.{none-long}
 use Rattle.pl_queue.specs.Views.{sent_of, after_offer}
 use Rattle.pl_words.specs.Admissions.{AdmittedView, SendSeatView, admitted_of}
 use Rattle.pl_flow.specs.Flows.{IsGood, on, past}
-use Rattle.pl_outbox.specs.declared.outboxes.Offered.TheVariants.{Handed, Full, Nothing}
 use Rattle.pl_outbox.specs.Sent.{sent_at, AreBehind, behind}
-use Rattle.pl_outbox.specs.OutboxViews.{OutboxView, IsOutboxes, waits_in, sent_to, reached, is_closed, is_refused, refuses, Offers, Stays, Forgets}
+use Rattle.pl_outbox.specs.OutboxViews.{OutboxView, IsOutboxes, waits_in, sent_to, reached, is_closed, is_refused, refuses, Sends, KeepsAll, Stays, Forgets}
 use Rattle.pl_outbox.proofs.SentLemmas.{front-sent, front-leaves, front-behind}
 use Rattle.pl_outbox.proofs.OutboxLemmas.{Replaces, replaces-set, on-way, closed-on, waits-entries, outboxes-hold}
 
@@ -36,15 +35,8 @@ module _ (world : World) (os : List OutboxView) (w : WaitingView AdmittedView) (
   -- ---- nothing waits
 
   module _ (w' : WaitingView AdmittedView) (takes : Takes w is.entries way None w') where
-    pub nothing-offers : Offers (record { outboxes = os; waiting = w; tried = ts; ways = ws }) way Nothing (record { outboxes = os; waiting = w'; tried = ts; ways = ws })
-    nothing-offers = (
-      ap (λ (v : WaitingView AdmittedView). record { outboxes = os; waiting = v; tried = ts; ways = ws }) takes.taken.1,
-      waits-entries w is.entries is.holds way ∙ ap (map (λ e. e.envelope)) (none-passes (is_for way) is.entries takes.taken.0),
-    )
-
-    pub nothing-stays : Stays (record { outboxes = os; waiting = w; tried = ts; ways = ws }) (record { outboxes = os; waiting = w'; tried = ts; ways = ws })
-    nothing-stays = subst (λ (v : WaitingView AdmittedView). Stays (record { outboxes = os; waiting = w; tried = ts; ways = ws }) (record { outboxes = os; waiting = v; tried = ts; ways = ws })) (sym takes.taken.1)
-        (record { count = refl; ways = refl; reached = λ y l. refl; cut = λ y l. refl; stops = λ y. refl; closed = λ s. record { way = s.way; outbox = s.outbox; is = s.is; closed = s.closed }; made = refl })
+    pub nothing-waits : waits_in w way ≡ []
+    nothing-waits = waits-entries w is.entries is.holds way ∙ ap (map (λ e. e.envelope)) (none-passes (is_for way) is.entries takes.taken.0)
 
   -- ---- the first is taken
 
@@ -119,9 +111,9 @@ module _ (world : World) (os : List OutboxView) (w : WaitingView AdmittedView) (
           })
           others-rest (let s = ap (λ s. s.made) is_seat in omega (arith, added, s))
 
-      pub handed-offers : ((entries : List (Entry AdmittedView)) → Holds w entries → Takes w entries way (Some (x, token)) w')
-          → Offers (record { outboxes = os; waiting = w; tried = ts; ways = ws }) way Handed (record { outboxes = set os way b'; waiting = w'; tried = ts; ways = ws })
-      handed-offers first = record {
+      pub handed-sends : ((entries : List (Entry AdmittedView)) → Holds w entries → Takes w entries way (Some (x, token)) w')
+          → Sends (record { outboxes = os; waiting = w; tried = ts; ways = ws }) way (record { outboxes = set os way b'; waiting = w'; tried = ts; ways = ws })
+      handed-sends first = record {
         envelope = x;
         waits = waits-own ∙ ap (λ zs. x ∷ zs) (sym waits-rest);
         sends = ap (option_map (λ (o : OutboxView). o.sends)) r.is ∙ ap (λ s. Some s) is_sends ∙ sym (ap (λ (o : Option OutboxView). option_map (λ s. after_offer s x) (option_map (λ b. b.sends) o)) at);
@@ -172,8 +164,8 @@ module _ (world : World) (os : List OutboxView) (w : WaitingView AdmittedView) (
       few = is.few;
     }
 
-    pub full-offers : Offers (record { outboxes = os; waiting = w; tried = ts; ways = ws }) way Full (record { outboxes = os; waiting = w'; tried = ts'; ways = ws })
-    full-offers = record { each = λ y. record { waits = waits-same y; sends = refl }; holds = back }
+    pub full-keeps : KeepsAll (record { outboxes = os; waiting = w; tried = ts; ways = ws }) (record { outboxes = os; waiting = w'; tried = ts'; ways = ws })
+    full-keeps = record { each = λ y. record { waits = waits-same y; sends = refl }; holds = back }
 
     pub full-stays : Stays (record { outboxes = os; waiting = w; tried = ts; ways = ws }) (record { outboxes = os; waiting = w'; tried = ts'; ways = ws })
     full-stays = record {

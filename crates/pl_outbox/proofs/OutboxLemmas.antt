@@ -3,12 +3,13 @@ use Rattle.std.proofs.Common.{◌≡◌, ◌≢◌, ℕ, zero, suc, ◌+◌, ◌
 use Rattle.std.specs.Prelude.{IfSome}
 use Rattle.std.specs.List.{All, filter, sum_by, find}
 use Rattle.std.specs.Option.{option_map, option_map_or}
-use Rattle.std.proofs.lemmas.Bool.{cases_eq, eqb-true, cases_Bool, cond-true, cond-false}
+use Rattle.std.proofs.lemmas.Bool.{cases_eq, eqb-true, eq-eqb, cases_Bool, cond-true, cond-false, both_ways}
 use Rattle.std.proofs.lemmas.List.{length-set}
 use Rattle.std.proofs.lemmas.List.Elements.{All-nil, All-cons, All-head, All-tail}
 use Rattle.std.proofs.lemmas.List.Sums.{sum_by-set, sum_by-le, length-filter}
-use Rattle.std.proofs.lemmas.Option.{slice_get_within, get_or_from_slice_get, same_Some}
+use Rattle.std.proofs.lemmas.Option.{slice_get_within, get_or_from_slice_get, none-some, same_Some}
 use Rattle.pl_event.specs.Worlds.{World}
+use Rattle.pl_event.proofs.Lists.{cons-none}
 use Rattle.pl_context.specs.Backlogs.{BacklogView}
 use Rattle.pl_context.specs.declared.waiting.Stamp.{Stamp}
 use Rattle.pl_context.specs.WaitingViews.{WaitingView, Entry, Aged, Holds, is_for}
@@ -152,6 +153,30 @@ found-there world o is opens found e = subst (λ (f : Option ℕ). IfSome f (λ 
     by (Some x) e =
         find-All (λ (e : Entry AdmittedView). opens e.target) (λ (e : Entry AdmittedView). e.target < length o.outboxes) is.entries x
         (subst (λ (zs : List (Entry AdmittedView)). All (λ e. e.target < length o.outboxes) zs) (sym is.holds.entries_are) (there is.holds.aged is.holds.holds.there)) e
+
+-- something waits at the way for which it is
+pub found-waits : (w : WaitingView AdmittedView) (entries : List (Entry AdmittedView)) → Holds w entries → (opens : ℕ → Bool) (found : Option ℕ) → found ≡ option_map (λ (e : Entry AdmittedView). e.target) (find (λ e. opens e.target) entries)
+    → IfSome found (λ way. waits_in w way ≢ [])
+found-waits w entries holds opens found e = subst (λ (f : Option ℕ). IfSome f (λ way. waits_in w way ≢ [])) (sym e) (by (find (λ e. opens e.target) entries) refl)
+  where
+    passes : (es : List (Entry AdmittedView)) (x : Entry AdmittedView) → find (λ e. opens e.target) es ≡ Some x → map (λ (z : Entry AdmittedView). z.envelope) (filter (is_for x.target) es) ≢ []
+    passes [] x at none = none-some x at
+    passes (z ∷ es) x at none = ⊎_elim
+        (λ (own : is_for x.target z ≡ true).
+        cons-none z.envelope (map (λ y. y.envelope) (filter (is_for x.target) es)) (sym (ap (map (λ (y : Entry AdmittedView). y.envelope)) (cond-true (is_for x.target z) (z ∷ filter (is_for x.target) es) (filter (is_for x.target) es) own)) ∙ none))
+        (λ (other : is_for x.target z ≡ false). ⊎_elim
+        (λ (goes : opens z.target ≡ true).
+        let same : z ≡ x = same_Some z x (sym (cond-true (opens z.target) (Some z) (find (λ e. opens e.target) es) goes) ∙ at) in
+        absurd (both_ways (is_for x.target z) other (eq-eqb z.target x.target (ap (λ (y : Entry AdmittedView). y.target) same))))
+        (λ (stays : opens z.target ≡ false).
+        passes es x (sym (cond-false (opens z.target) (Some z) (find (λ e. opens e.target) es) stays) ∙ at)
+        (sym (ap (map (λ (y : Entry AdmittedView). y.envelope)) (cond-false (is_for x.target z) (z ∷ filter (is_for x.target) es) (filter (is_for x.target) es) other)) ∙ none))
+        (cases_Bool (opens z.target)))
+        (cases_Bool (is_for x.target z))
+
+    by : (f : Option (Entry AdmittedView)) → find (λ (e : Entry AdmittedView). opens e.target) entries ≡ f → IfSome (option_map (λ e. e.target) f) (λ way. waits_in w way ≢ [])
+    by None at = tt
+    by (Some x) at = λ none. passes entries x at (sym (waits-entries w entries holds x.target) ∙ none)
 
 -- where no entry is, nothing waits at any way
 pub none-wait : (w : WaitingView AdmittedView) (entries : List (Entry AdmittedView)) → Holds w entries → (length entries == 0) ≡ true → (y : ℕ) → waits_in w y ≡ []

@@ -21,8 +21,6 @@ use Rattle.pl_words.specs.declared.status.Status.TheVariants.{Accepting, Closing
 use Rattle.pl_words.specs.Admissions.{SendSeatView, AdmittedView, admitted_of, Refuses}
 use Rattle.pl_flow.specs.Flows.{Point, nowhere, after, on, past}
 use Rattle.pl_flow.specs.LanesViews.{KeepsPlaces}
-use Rattle.pl_outbox.specs.declared.outboxes.Offered.{Offered}
-use Rattle.pl_outbox.specs.declared.outboxes.Offered.TheVariants.{Handed, Full, Nothing}
 use Rattle.pl_outbox.specs.Sent.{sent_at, AreBehind}
 use Rattle.pl_outbox.specs.Tries.{is_tried}
 
@@ -180,12 +178,6 @@ pub record KeepsAll (o o' : OutboxesView) : Type 0 where
   pub each : (y : ℕ) → SameFor o o' y
   pub holds : (entries : List (Entry AdmittedView)) → Holds o.waiting entries → Holds o'.waiting entries
 
--- what became of the first that waits at a way
-abbrev pub Offers : OutboxesView → ℕ → Offered → OutboxesView → Type 0
-Offers o way Handed o' = Sends o way o'
-Offers o way Full o' = KeepsAll o o'
-Offers o way Nothing o' = (o' ≡ o) × (waits_for o way ≡ [])
-
 module _ {M S T : Type 0} (ends : MailboxEnds M S T) (world : World) where
   -- The mailbox of a sender that has sent this was full at some moment of the call.
   pub record WasFull (sends : SenderView) : Type 0 where
@@ -194,18 +186,6 @@ module _ {M S T : Type 0} (ends : MailboxEnds M S T) (world : World) where
     pub made : ends.is_sender mailbox sender
     pub sent : ends.sends_of sender ≡ sends
     pub once : WasOnce (ends.capacity_of mailbox) (SenderSees world sends)
-
-  -- the answer is Full only where the queue was
-  abbrev pub FullOnce : OutboxesView → ℕ → Offered → Type 0
-  FullOnce o way Handed = Unit {0}
-  FullOnce o way Full = (sends : SenderView) × (sends_for o way ≡ Some sends) × WasFull sends
-  FullOnce o way Nothing = Unit {0}
-
--- The ways whose queue was full, after an offer. The way of the offer is one, where it was full.
-abbrev pub tried_after : OutboxesView → ℕ → Offered → ℕ → Bool
-tried_after o way Handed y = was_tried o y
-tried_after o way Full y = (y == way) || was_tried o y
-tried_after o way Nothing y = was_tried o y
 
 -- Nothing was sent, and no queue was found full.
 pub record SendsNothing (o o' : OutboxesView) : Type 0 where

@@ -64,7 +64,7 @@ fn bit_of(number: usize) -> u64 {
 /// Executors that wait, each by a note of its own.
 #[derive(Drop)]
 pub(crate) struct Notes {
-    /// Those of an `NumberSet`.
+    /// Those of a `NumberSet`.
     bits: AtomicU64,
 }
 

@@ -1,13 +1,13 @@
 //! What an executor made for others, and has not handed over.
 
-ghost use Rattle.std.specs.Prelude.{◌≡◌, ℕ, List, [], ◌∷◌, ◌<◌, ◌^◌, ◌==◌, length, map, All, IfOk, IfErr, IfSome, IfNone, Some, false, true, not};
+ghost use Rattle.std.specs.Prelude.{◌≡◌, ◌≢◌, ℕ, List, [], ◌∷◌, ◌<◌, ◌^◌, ◌==◌, ◌&&◌, ◌||◌, length, map, All, IfOk, IfErr, IfSome, IfNone, Some, false, true, not};
 ghost use Rattle.pl_context.specs.Stops.{HasPlaces, no_stops};
 ghost use Rattle.pl_context.specs.WaitingViews.{Entry, Holds, stops_for};
 ghost use Rattle.pl_queue.specs.declared.views.SenderView.{SenderView};
 ghost use Rattle.pl_words.specs.Admissions.{AdmittedView};
 ghost use Rattle.pl_flow.specs.Flows.{IsNext};
 ghost use Rattle.pl_outbox.specs.Tries.{is_tried};
-ghost use Rattle.pl_outbox.specs.OutboxViews.{IsNew, admissions, waits_for, sends_for, was_tried, oldest_untried, tried_after, way_to, reached, is_cut, Adds, Comes, RefusedBy, Offers, WasFull, FullOnce, Sends, SameFor, Stays, Forgets, closed_seat};
+ghost use Rattle.pl_outbox.specs.OutboxViews.{IsNew, admissions, waits_for, sends_for, was_tried, oldest_untried, way_to, reached, is_cut, Adds, Comes, RefusedBy, WasFull, Sends, SameFor, KeepsAll, Stays, Forgets, closed_seat};
 
 use crate::bell::WAKE_EVERY;
 use crate::congestion::Congestion;
@@ -25,17 +25,6 @@ use std::sync::Wait;
 
 /// The number of no way.
 pub const NO_WAY: u16 = u16::MAX;
-
-/// What became of the oldest envelope of a way.
-#[derive(Clone, Copy, Debug, PartialEq, Eq)]
-enum Offered {
-    /// It is in the queue.
-    Handed,
-    /// The queue answered that it is full. It waits where it did.
-    Full,
-    /// Nothing waits at that way.
-    Nothing,
-}
 
 /// The ways of an executor, one to itself among them, each with a number, and the envelopes that wait for them.
 ///
@@ -120,12 +109,10 @@ impl<'a, W: Named, M: Mailbox<W> + Drop> Outboxes<'a, W, M> {
 
     /// The number of the way to an executor.
     fn way_to(&self, executor: usize) -> usize
+        requires { way_to self.now executor < length self.now.outboxes }
         ensures { result ≡ way_to self.now executor }
     {
-        match self.ways.get(executor) {
-            None => usize::from(NO_WAY),
-            Some(&way) => usize::from(way),
-        }
+        usize::from(self.ways[executor])
     }
 
     /// Adds an envelope for a way.
@@ -181,7 +168,7 @@ impl<'a, W: Named, M: Mailbox<W> + Drop> Outboxes<'a, W, M> {
                 self.ring_for_sent();
                 return None;
             };
-            if let Offered::Handed = self.offer(rt, way) {
+            if self.offer(rt, way) {
                 self.ring_for_many();
                 return Some(way);
             }
@@ -200,6 +187,7 @@ impl<'a, W: Named, M: Mailbox<W> + Drop> Outboxes<'a, W, M> {
     /// The way of the oldest envelope, among those whose queue this `hand` has not found full.
     fn oldest(&self) -> Option<usize>
         ensures there { IfSome result (λ way. way < length self.now.outboxes) }
+        ensures waits { IfSome result (λ way. waits_for self.now way ≢ []) }
         ensures oldest { (entries : List (Entry AdmittedView)) → Holds self.now.waiting entries
             → result ≡ oldest_untried self.now entries }
     {
@@ -211,22 +199,24 @@ impl<'a, W: Named, M: Mailbox<W> + Drop> Outboxes<'a, W, M> {
         )
     }
 
-    /// Offers the oldest envelope of a way to its queue. Where that is full what waits, if anything does, waits where it
-    /// did, and the way counts as tried.
-    fn offer<R: Wait>(&mut self, rt: &R, way: usize) -> Offered
+    /// Offers the oldest envelope of a way to its queue. False where that is full: what waits stays where it is, and the
+    /// way counts as tried.
+    fn offer<R: Wait>(&mut self, rt: &R, way: usize) -> bool
         requires there { way < length self.old.outboxes }
-        ensures offers { Offers self.old way result self.new }
-        ensures full { FullOnce M.ends W.world self.old way result }
+        requires waits { waits_for self.old way ≢ [] }
+        ensures sends { result ≡ true → Sends self.old way self.new }
+        ensures keeps { result ≡ false → KeepsAll self.old self.new }
+        ensures full { result ≡ false → (sends : SenderView) × (sends_for self.old way ≡ Some sends) × WasFull M.ends W.world sends }
         ensures stays { Stays self.old self.new }
-        ensures tried { (y : ℕ) → was_tried self.new y ≡ tried_after self.old way result y }
+        ensures tried { (y : ℕ) → was_tried self.new y ≡ ((not result && (y == way)) || was_tried self.old y) }
     {
         // What a full queue would hand back is not taken out for it.
         if self.is_full(way) {
             self.tries.add(way);
-            return Offered::Full;
+            return false;
         }
         let Some((envelope, admitted)) = self.waiting.take(way) else {
-            return Offered::Nothing;
+            unreachable!()
         };
         match self.outboxes[way].offer(rt, envelope) {
             Ok(()) => {
@@ -234,12 +224,12 @@ impl<'a, W: Named, M: Mailbox<W> + Drop> Outboxes<'a, W, M> {
                 self.waiting_count = self.waiting_count.saturating_sub(1);
                 self.unrung = self.unrung.with(way);
                 self.unrung_sent = self.unrung_sent.saturating_add(1);
-                Offered::Handed
+                true
             }
             Err(Full { envelope }) => {
                 self.waiting.put_back(way, envelope, admitted);
                 self.tries.add(way);
-                Offered::Full
+                false
             }
         }
     }

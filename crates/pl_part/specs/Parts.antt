@@ -13,8 +13,8 @@ use Rattle.pl_context.specs.declared.standing.Standing.TheVariants as standings
 use Rattle.pl_context.specs.declared.standing.Took.{Took}
 use Rattle.pl_context.specs.Standings.{is_over, together}
 use Rattle.pl_context.specs.OutputsViews.{OutputsView}
-use Rattle.pl_flow.specs.declared.moves.HeadMove.{HeadMove}
-use Rattle.pl_flow.specs.declared.moves.HeadMove.TheVariants as by
+use Rattle.pl_flow.specs.declared.head_moves.HeadMove.{HeadMove}
+use Rattle.pl_flow.specs.declared.head_moves.HeadMove.TheVariants as by
 use Rattle.pl_flow.specs.Flows.{Point, nowhere}
 use Rattle.pl_head.specs.declared.heads.OutStep.{OutStep}
 use Rattle.pl_head.specs.declared.heads.OutStep.TheVariants as step

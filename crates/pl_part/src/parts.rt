@@ -312,15 +312,15 @@ impl<S: Stage, T: Transport> ChannelPart<S, T> {
     }
 
     /// Gives the part up for its stages (`into_stages`), and the ends (`into_ends`). An `Err` is out of memory.
-    pub fn into_nodes(
+    pub fn into_stages_and_ends(
         self,
         alloc: Global,
     ) -> Result<(Vec<Option<KeptStage<S>>>, Option<Tail>, Option<Head<T>>), AllocError>
-        ensures stages { IfOk result (λ nodes. nodes.0.items ≡ part_stages self) }
-        ensures tail { IfOk result (λ nodes. nodes.1 ≡ self.path.tail) }
-        ensures head { IfOk result (λ nodes. nodes.2 ≡ self.head) }
+        ensures stages { IfOk result (λ given. given.0.items ≡ part_stages self) }
+        ensures tail { IfOk result (λ given. given.1 ≡ self.path.tail) }
+        ensures head { IfOk result (λ given. given.2 ≡ self.head) }
     {
-        let (stages, tail) = self.path.into_nodes(alloc)?;
+        let (stages, tail) = self.path.into_stages_and_tail(alloc)?;
         Ok((stages, tail, self.head))
     }
 
@@ -331,7 +331,7 @@ impl<S: Stage, T: Transport> ChannelPart<S, T> {
         // Each stands after the first events of its lane, and where its context has ended after all.
         ensures lanes { IfOk result (λ stages. (world : World) → PartHolds world S.meaning S.stands_after T.state self → AreLaneStages world S.stands_after self.path.channel stages.items) }
     {
-        let (stages, _, _) = self.into_nodes(alloc)?;
+        let (stages, _, _) = self.into_stages_and_ends(alloc)?;
         Ok(stages)
     }
 
@@ -351,6 +351,7 @@ impl<S: Stage, T: Transport> ChannelPart<S, T> {
         self.head.as_ref()
     }
 
+    /// `take` where the lane enters the head.
     fn take_at_head(&mut self, envelope: Envelope, work: &mut Outputs) -> Took
         requires next { (world : World) × IsNextFor world S.meaning S.stands_after T.state self.old envelope work.old }
         requires there { (envelope.lane.hop == head_hop self.old) ≡ true }

@@ -161,12 +161,12 @@ impl<S: Stage> PathPart<S> {
     }
 
     /// Gives the nodes up for the stages, by hop, and the tail. No stage is at the tail's hop, nor where the context is elsewhere.
-    pub(crate) fn into_nodes(
+    pub(crate) fn into_stages_and_tail(
         self,
         alloc: Global,
     ) -> Result<(Vec<Option<KeptStage<S>>>, Option<Tail>), AllocError>
-        ensures stages { IfOk result (λ nodes. nodes.0.items ≡ kept_stages self.contexts) }
-        ensures tail { IfOk result (λ nodes. nodes.1 ≡ self.tail) }
+        ensures stages { IfOk result (λ given. given.0.items ≡ kept_stages self.contexts) }
+        ensures tail { IfOk result (λ given. given.1 ≡ self.tail) }
     {
         let stages = stages_of(alloc, self.contexts)?;
         Ok((stages, self.tail))
@@ -270,6 +270,7 @@ impl<S: Stage> PathPart<S> {
         })
     }
 
+    /// `take` where the lane enters a context.
     fn take_at_context(&mut self, envelope: Envelope, work: &mut Outputs) -> Took
         requires next { (world : World) × IsNextOnPath world S.meaning S.stands_after self.old envelope work.old }
         requires elsewhere { (envelope.lane.hop == self.old.tail_hop) ≡ false }
@@ -281,6 +282,7 @@ impl<S: Stage> PathPart<S> {
         }
     }
 
+    /// `take` where the lane enters the tail, which makes nothing: the work list is there for the condition alone.
     fn take_at_tail(&mut self, envelope: Envelope, work: &mut Outputs) -> Took
         requires next { (world : World) × IsNextOnPath world S.meaning S.stands_after self.old envelope work.old }
         requires there { (envelope.lane.hop == self.old.tail_hop) ≡ true }
@@ -292,6 +294,7 @@ impl<S: Stage> PathPart<S> {
         }
     }
 
+    /// Fails the context at this hop, where it is here, for a refused envelope of a lane that it writes.
     fn refuse_at_hop(&mut self, hop: usize, lane: Lane, work: &mut Outputs)
         requires holds { (world : World) × (world.refuses ≡ true) × PathHolds world S.meaning S.stands_after self.old }
         requires places { HasPlaces work.old.stopped (path_lanes self.old) }

@@ -1,4 +1,4 @@
-//! What contracts see of a sender and of the taker. No value of a view is made.
+//! What contracts see of a sender and of the taker. Only of `TakeCount` values are made.
 
 use pl_event::{Envelope, Lane};
 use std::collections::LinkedList;

@@ -28,7 +28,7 @@ const YIELDS: u32 = 8;
 
 /// Both ends of a channel.
 #[derive(Drop)]
-pub struct Channel<W: Named> {
+pub struct Bounded<W: Named> {
     to: RuledSender<Envelope, PassView, LanesInTurn<W>>,
     from: RuledReceiver<Envelope, PassView, LanesInTurn<W>>,
 }
@@ -37,7 +37,7 @@ pub struct Channel<W: Named> {
 /// once the envelope is in the queue. `take` waits for nothing.
 #[derive(Drop)]
 pub struct WaitingBox<W: Named> {
-    queue: Channel<W>,
+    queue: Bounded<W>,
 }
 
 /// A sender of a [`WaitingBox`].
@@ -68,7 +68,7 @@ impl<W: Named> Lesson<Envelope, PassView> for Popped<W> {
     ghost fact = { λ v items. BothSee W.world v items };
 }
 
-impl<W: Named> RuledQueue<W> for Channel<W> {
+impl<W: Named> RuledQueue<W> for Bounded<W> {
     type Pass = Pass<Envelope, PassView>;
 
     ghost view_of = { λ p. view p };
@@ -80,11 +80,11 @@ impl<W: Named> RuledQueue<W> for Channel<W> {
     fn make(
         alloc: Global,
         capacity: usize,
-    ) -> Result<(Channel<W>, Pass<Envelope, PassView>), AllocError> {
+    ) -> Result<(Bounded<W>, Pass<Envelope, PassView>), AllocError> {
         let (to, from, pass) = bounded_with::<Envelope, PassView, LanesInTurn<W>, Global>(
             alloc, capacity,
         )?;
-        Ok((Channel { to, from }, pass))
+        Ok((Bounded { to, from }, pass))
     }
 
     fn deal<L: Dealt>(&self, pass: &mut Pass<Envelope, PassView>) -> Pass<Envelope, PassView> {
@@ -103,7 +103,7 @@ impl<W: Named> RuledQueue<W> for Channel<W> {
     }
 }
 
-impl<W: Named> Channel<W> {
+impl<W: Named> Bounded<W> {
     // Tries some times, and yields after each. Hands the envelope back where it found no room.
     fn try_push<R: Wait>(
         &self,
@@ -149,7 +149,7 @@ impl<W: Named> Mailbox<W> for WaitingBox<W> {
         lanes: Vec<Vec<Lane>>,
         capacity: usize,
     ) -> Result<(WaitingBox<W>, Vec<WaitingSender<W>>, WaitingTaker<W>), OpenRefusal> {
-        let (queue, senders, taker) = open_over::<W, Channel<W>>(alloc, lanes, capacity)?;
+        let (queue, senders, taker) = open_over::<W, Bounded<W>>(alloc, lanes, capacity)?;
         Ok((WaitingBox { queue }, senders, taker))
     }
 
@@ -201,7 +201,7 @@ impl<W: Named> Mailbox<W> for WaitingBox<W> {
     }
 
     fn take<R: Wait>(&self, rt: &R, taker: &mut WaitingTaker<W>) -> Option<Envelope> {
-        take_front::<W, Channel<W>, R>(rt, &self.queue, taker)
+        take_front::<W, Bounded<W>, R>(rt, &self.queue, taker)
     }
 
     fn finish<R: Wait>(
@@ -216,6 +216,6 @@ impl<W: Named> Mailbox<W> for WaitingBox<W> {
         requires all { AreAll (send_counts_of (map (λ s. sends_by s.pass) senders.items)) (takes_by taker.pass).counts }
         ensures left { IfOk result (λ left. IsAllLeft W.world (send_counts_of (map (λ s. sends_by s.pass) senders.items)) (takes_by taker.pass).counts (map held_of left.lanes.items)) }
     {
-        finish_over::<W, Channel<W>, R>(rt, alloc, &self.queue, senders, taker)
+        finish_over::<W, Bounded<W>, R>(rt, alloc, &self.queue, senders, taker)
     }
 }

@@ -1,10 +1,12 @@
 -- Each channel of a net has its two ends, and they hold in the world of the plan.
-use Rattle.std.proofs.Common.{◌≡◌, ℕ, false, List, slice_get, Option, Some, sym, ap, ◌∙◌}
-use Rattle.std.specs.Prelude.{All}
+use Rattle.std.proofs.Common.{◌≡◌, ℕ, true, false, List, length, get_or, nat_lt, slice_get, Option, Some, None, refl, sym, ap, ◌∙◌}
+use Rattle.std.specs.Prelude.{All, IfSome, IfNone, MatchOption}
 use Rattle.std.specs.Option.{option_map_or}
+use Rattle.std.proofs.lemmas.Bool.{ltb-true}
+use Rattle.std.proofs.lemmas.Option.{none-some, slice_get_read}
 use Rattle.pl_event.specs.declared.events.Event.{Event}
 use Rattle.pl_event.specs.Meaning.{Meaning}
-use Rattle.pl_event.proofs.Lists.{All-from-at, some-of}
+use Rattle.pl_event.proofs.Lists.{All-at, All-from-at, some-of}
 use Rattle.pl_context.specs.TailViews.{TailView}
 use Rattle.pl_context.specs.WaitingViews.{Entry}
 use Rattle.pl_head.specs.HeadStand.{HeadView, gone_of}
@@ -51,3 +53,20 @@ module _ {S T : Type 0} (meaning : S → Meaning) (stands_after : S → List Eve
           keeps.head ends.head ends.has_head,
         );
   }
+
+-- The part that stands at a number has both ends.
+module _ {S T : Type 0} (own parts : List (ChannelPartView S T)) (same : parts ≡ own) (ends : All HasEnds parts) (c : ℕ) (part : ChannelPartView S T) (there : true ≡ nat_lt c (length parts)) (is : part ≡ get_or parts c part) where
+  stands-at : slice_get parts c ≡ Some part
+  stands-at = slice_get_read parts (length parts) c part refl (ltb-true c (length parts) (sym there)) is
+
+  pub own-at : slice_get own c ≡ Some part
+  own-at = sym (ap (λ (l : List (ChannelPartView S T)). slice_get l c) same) ∙ stands-at
+
+  pub its-ends : HasEnds part
+  its-ends = All-at HasEnds parts c part ends stands-at
+
+-- and what a part has is found in it
+pub end-found : {A B : Type 0} {P : A → Type 0} (Past : Type 0) (found : Option A) (view : A → B) (own : Option B) (end : B) → own ≡ Some end → IfSome found (λ x. own ≡ Some (view x)) → IfNone found (own ≡ None)
+    → ((x : A) → own ≡ Some (view x) → P x) → MatchOption found Past P
+end-found Past None view own end has some none then = absurd (none-some end (sym none ∙ has))
+end-found Past (Some x) view own end has some none then = then x some

@@ -10,8 +10,8 @@ use Rattle.pl_event.specs.Meaning.{Meaning}
 use Rattle.pl_event.proofs.Lists.{at_set_same, at_set_other}
 use Rattle.pl_context.specs.declared.standing.Took.{Took}
 use Rattle.pl_context.specs.OutputsViews.{OutputsView}
-use Rattle.pl_flow.specs.declared.moves.HeadMove.{HeadMove}
-use Rattle.pl_flow.specs.declared.moves.HeadMove.TheVariants as head
+use Rattle.pl_flow.specs.declared.head_moves.HeadMove.{HeadMove}
+use Rattle.pl_flow.specs.declared.head_moves.HeadMove.TheVariants as head
 use Rattle.pl_head.specs.declared.heads.ReadStep.{ReadStep}
 use Rattle.pl_head.specs.HeadStand.{HeadView}
 use Rattle.pl_head.specs.Transports.{TransportState}

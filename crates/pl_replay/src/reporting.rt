@@ -6,7 +6,7 @@ ghost use Rattle.pl_world.specs.Plans.{Plan};
 ghost use Rattle.pl_world.specs.Reports.{AllReportPlan};
 ghost use Rattle.pl_replay.specs.Reported.{AreDrained, HasEnds, HaveEnds, IsPartReport, IsPartStands, ReportsItsPlan};
 
-use pl_channel::{into_report, report, standing};
+use pl_channel::{into_report, report, stands};
 use pl_context::Tail;
 use pl_event::{Sequence, Stage};
 use pl_head::{Head, Transport};
@@ -53,7 +53,7 @@ pub(crate) fn are_drained<S: Stage, T: Transport>(parts: &[ChannelPart<S, T>]) -
 {
     let mut drained = true;
     for part in parts {
-        drained &= matches!(standing_of(part), Stands::Drained);
+        drained &= matches!(stands_of(part), Stands::Drained);
     }
     drained
 }
@@ -85,16 +85,16 @@ fn report_from<S: Stage, T: Transport>(
 }
 
 /// How a part's channel stands.
-fn standing_of<S: Stage, T: Transport>(part: &ChannelPart<S, T>) -> Stands
+fn stands_of<S: Stage, T: Transport>(part: &ChannelPart<S, T>) -> Stands
     requires { HasEnds part.now }
     ensures { IsPartStands T.state part.now result }
 {
     let (tail, head) = ends(part);
-    standing(tail, head)
+    stands(tail, head)
 }
 
 /// The tail and the head of a part's channel.
-pub(crate) fn ends<S: Stage, T: Transport>(part: &ChannelPart<S, T>) -> (&Tail, &Head<T>)
+fn ends<S: Stage, T: Transport>(part: &ChannelPart<S, T>) -> (&Tail, &Head<T>)
     requires { HasEnds part.now }
     ensures tail { part.now.path.tail ≡ Some result.0.now }
     ensures head { part.now.head ≡ Some result.1.now }

@@ -1,4 +1,4 @@
-//! A schedule is made here, which drains a session where one does.
+//! A schedule is made here: moves of a session until none is enabled.
 
 ghost use Rattle.std.specs.Prelude.{◌≡◌, ◌≤◌, ◌+◌, [], length, IfOk, Ok, false, if◌then◌else◌};
 ghost use Rattle.std.specs.Option.{option_map_or};
@@ -31,8 +31,8 @@ pub struct Scheduled {
     pub report: Report,
 }
 
-/// Makes moves of a session until none is enabled, at most `MAX_MOVES`. A session that no schedule drains, as one that fails, is
-/// not drained by this one; one that some schedule drains is, whatever the order.
+/// Makes moves of a session until none is enabled, or there are `MAX_MOVES`. Where none is, it is drained if any schedule drains
+/// it, whatever the order.
 pub fn schedule(alloc: Global, session: Session, order: Order) -> Result<Scheduled, ReplayFault>
     // The report is that of the session's replay by the moves.
     ensures replayed { IfOk result (λ made. IsReplayed ⟦<Handler as Stage>⟧.meaning ⟦<Handler as Stage>⟧.stands_after ⟦<Handler as Stage>⟧.is_spent ⟦<MemoryTransport as Transport>⟧.state ⟦<MemoryTransport as Transport>⟧.may_refuse

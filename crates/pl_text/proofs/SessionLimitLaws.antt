@@ -2,7 +2,7 @@
 use Rattle.std.proofs.Common.{◌≡◌, ◌≤◌, ℕ, ◌&&◌, Bool, true, false, List, [], ◌∷◌, length, Option, Some, None, Result, Ok, Err, refl, ap, subst, arith, suc}
 use Rattle.std.specs.Prelude.{nat_le, if◌then◌else◌, codes}
 use Rattle.std.specs.List.{AllByRecursion}
-use Rattle.std.proofs.lemmas.Bool.{le-leb}
+use Rattle.std.proofs.lemmas.Bool.{le-leb, leb-true}
 use Rattle.std.proofs.lemmas.Bool.Decides.{nat_tests}
 use Rattle.serde_json.specs.Data.{Data}
 use Rattle.serde_json.specs.Find.{get}
@@ -25,7 +25,7 @@ use Rattle.pl_text.specs.declared.session_text.outline.Edit.{Edit}
 use Rattle.pl_text.specs.declared.session_text.outline.Edit.TheVariants.{First, Last, Before, After, Remove}
 use Rattle.pl_text.specs.declared.session_text.outline.ChannelOutline.{ChannelOutline}
 use Rattle.pl_text.specs.declared.session_text.outline.Outline.{Outline}
-use Rattle.pl_text.specs.SessionReading.{◌>>=◌, known, whole, whole_in, between, text, an_object, required, optional, present, read_or, each, elements_of, of_length, array_in, array_of}
+use Rattle.pl_text.specs.SessionReading.{◌>>=◌, known, whole, whole_in, between, text, an_object, required, optional, present, read_or, each, elements_of, of_at_most, array_in, array_of}
 use Rattle.pl_text.specs.SessionChannels.{operation_in, lines_in, flush_every_in, known_width, width_in, length_in, prepend_in, handler_named, handler_in, addition_in, edit_of, edit_in, mark_in, window_in, fail_at_in, element_in, limited, bursts_in, abort_after_in, channel_in}
 use Rattle.pl_text.specs.SessionOutlines.{IsHandlerWithin, IsEditWithin, IsCallWithin, IsChannelOutlineWithin, IsOutlineWithin, version_in, groups_in, outline_in}
 
@@ -69,14 +69,14 @@ each-within {B} Q P read holds (d ∷ ds) xs given h =
     let e : first.0 ∷ others.0 ≡ xs = cc in
     subst (λ (ys : List B). AllByRecursion P ys × (length ys ≡ length (d ∷ ds))) e ((holds d first.0 given.0 first.1, rest.0), ap suc rest.1)
 
-array_in-within : {A : Type 0} (P : A → Type 0) (low high : ℕ) (read : Data → Result A SessionFault) → ((d : Data) (x : A) → read d ≡ Ok x → P x) → (d : Data) (xs : List A) → array_in low high read d ≡ Ok xs → (low ≤ length xs) × (length xs ≤ high) × AllByRecursion P xs
-array_in-within P low high read holds d xs h =
-    let p = bind-ok (elements_of d >>= of_length low high) (each read) xs h in
-    let q = bind-ok (elements_of d) (of_length low high) p.0 p.1 in
+array_in-within : {A : Type 0} (P : A → Type 0) (most : ℕ) (read : Data → Result A SessionFault) → ((d : Data) (x : A) → read d ≡ Ok x → P x) → (d : Data) (xs : List A) → array_in most read d ≡ Ok xs → (length xs ≤ most) × AllByRecursion P xs
+array_in-within P most read holds d xs h =
+    let p = bind-ok (elements_of d >>= of_at_most most) (each read) xs h in
+    let q = bind-ok (elements_of d) (of_at_most most) p.0 p.1 in
     let room = choice-ok _ _ _ _ q.2 in
-    let length_is : (low ≤ length p.0) × (length p.0 ≤ high) = subst (λ (ds : List Data). (low ≤ length ds) × (length ds ≤ high)) room.1 (both_le _ _ _ _ room.0) in
+    let length_is : length p.0 ≤ most = subst (λ (ds : List Data). length ds ≤ most) room.1 (leb-true _ most room.0) in
     let all = each-within (λ _. Unit {0}) P read (λ e x _ is. holds e x is) p.0 xs (any_is_any p.0) p.2 in
-    (omega (arith, all.1, length_is.0), omega (arith, all.1, length_is.1), all.0)
+    (omega (arith, all.1, length_is), all.0)
 
 required-ok : {A : Type 0} (name : List ℕ) (read : Data → Result A SessionFault) (d : Data) (x : A) → required name read d ≡ Ok x → (e : Data) × (read e ≡ Ok x)
 required-ok name read d x h = let p = bind-ok (known Missing (get name d)) read x h in (p.0, p.2)
@@ -204,7 +204,7 @@ window_in-within d window h =
 bursts_in-within : (version : Version) (d : Data) (bursts : Bursts) → bursts_in version d ≡ Ok bursts → fits bursts ≡ true
 unfolding bursts_in
 bursts_in-within version d bursts h =
-    let p = bind-ok (array_in 0 MAX_BURSTS (array_of (element_in version)) d) limited bursts h in
+    let p = bind-ok (array_in MAX_BURSTS (array_of (element_in version)) d) limited bursts h in
     let within = choice-ok _ _ _ _ p.2 in
     subst (λ (t : Bursts). fits t ≡ true) within.1 within.0
 
@@ -233,20 +233,20 @@ channel_in-within : (version : Version) (d : Data) (channel : ChannelOutline) �
 unfolding channel_in
 channel_in-within version d channel h =
     let object = bind-ok (an_object d) _ channel h in
-    let edits = bind-ok (required (codes "handlers") (array_in 0 MAX_EDITS (edit_in version)) object.0) _ channel object.2 in
+    let edits = bind-ok (required (codes "handlers") (array_in MAX_EDITS (edit_in version)) object.0) _ channel object.2 in
     let low = bind-ok (mark_in (codes "low") DEFAULT_LOW object.0) _ channel edits.2 in
     let high = bind-ok (mark_in (codes "high") DEFAULT_HIGH object.0) _ channel low.2 in
     let window = bind-ok (window_in object.0) _ channel high.2 in
     let fail_at = bind-ok (fail_at_in object.0) _ channel window.2 in
     let bursts = bind-ok (required (codes "bursts") (bursts_in version) object.0) _ channel fail_at.2 in
     let abort_after = bind-ok (abort_after_in (length bursts.0) object.0) _ channel bursts.2 in
-    let handlers = required-ok (codes "handlers") (array_in 0 MAX_EDITS (edit_in version)) object.0 edits.0 edits.1 in
+    let handlers = required-ok (codes "handlers") (array_in MAX_EDITS (edit_in version)) object.0 edits.0 edits.1 in
     let recorded = required-ok (codes "bursts") (bursts_in version) object.0 bursts.0 bursts.1 in
-    let all = array_in-within IsEditWithin 0 MAX_EDITS (edit_in version) (edit_in-within version) handlers.0 edits.0 handlers.1 in
+    let all = array_in-within IsEditWithin MAX_EDITS (edit_in version) (edit_in-within version) handlers.0 edits.0 handlers.1 in
     let room = window_in-within object.0 window.0 window.1 in
     let is : record { edits = edits.0; low = low.0; high = high.0; window = window.0; fail_at = fail_at.0; bursts = bursts.0; abort_after = abort_after.0 } ≡ channel = same_ok _ channel _ refl abort_after.2 in
     subst IsChannelOutlineWithin is (record {
-      edits = all.2;
+      edits = all.1;
       window_at_least = room.0;
       window_at_most = room.1;
       fail_at = fail_at_in-within object.0 fail_at.0 fail_at.1;
@@ -264,9 +264,9 @@ outline_is_within d outline h =
     let capacity = bind-ok (required (codes "capacity") (whole_in 1 MAX_CAPACITY) object.0) _ outline version.2 in
     let loops = bind-ok (required (codes "loops") (whole_in 1 MAX_EXECUTORS) object.0) _ outline capacity.2 in
     let groups = bind-ok (groups_in object.0) _ outline loops.2 in
-    let channels = bind-ok (required (codes "channels") (array_in 0 MAX_CHANNELS (channel_in version.0)) object.0) _ outline groups.2 in
-    let array = required-ok (codes "channels") (array_in 0 MAX_CHANNELS (channel_in version.0)) object.0 channels.0 channels.1 in
+    let channels = bind-ok (required (codes "channels") (array_in MAX_CHANNELS (channel_in version.0)) object.0) _ outline groups.2 in
+    let array = required-ok (codes "channels") (array_in MAX_CHANNELS (channel_in version.0)) object.0 channels.0 channels.1 in
     let range = number-within (codes "capacity") 1 MAX_CAPACITY object.0 capacity.0 capacity.1 in
-    let all = array_in-within IsChannelOutlineWithin 0 MAX_CHANNELS (channel_in version.0) (channel_in-within version.0) array.0 channels.0 array.1 in
+    let all = array_in-within IsChannelOutlineWithin MAX_CHANNELS (channel_in version.0) (channel_in-within version.0) array.0 channels.0 array.1 in
     let is : record { capacity = capacity.0; loops = loops.0; groups = groups.0; channels = channels.0 } ≡ outline = cc in
-    subst IsOutlineWithin is (record { capacity_at_least = range.0; capacity_at_most = range.1; channels_at_most = all.1; each_channel = all.2 })
+    subst IsOutlineWithin is (record { capacity_at_least = range.0; capacity_at_most = range.1; channels_at_most = all.0; each_channel = all.1 })

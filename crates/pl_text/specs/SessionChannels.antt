@@ -165,7 +165,7 @@ abbrev pub limited : Bursts → Result Bursts SessionFault
 limited bursts = if fits bursts then Ok bursts else Err Limit
 
 unfoldable pub bursts_in : Version → Data → Result Bursts SessionFault
-bursts_in version d = array_in 0 MAX_BURSTS (array_of (element_in version)) d >>= limited
+bursts_in version d = array_in MAX_BURSTS (array_of (element_in version)) d >>= limited
 
 -- after how many of the bursts it is aborted, if it is
 unfoldable pub abort_after_in : ℕ → Data → Result (Option ℕ) SessionFault
@@ -174,7 +174,7 @@ abort_after_in count channel = optional (codes "abort_after") (whole_in 0 count)
 unfoldable pub channel_in : Version → Data → Result ChannelOutline SessionFault
 channel_in version d = do
   channel ← an_object d
-  edits ← required (codes "handlers") (array_in 0 MAX_EDITS (edit_in version)) channel
+  edits ← required (codes "handlers") (array_in MAX_EDITS (edit_in version)) channel
   low ← mark_in (codes "low") DEFAULT_LOW channel
   high ← mark_in (codes "high") DEFAULT_HIGH channel
   window ← window_in channel

@@ -47,7 +47,7 @@ outline_in d = do
   capacity ← required (codes "capacity") (whole_in 1 MAX_CAPACITY) top
   loops ← required (codes "loops") (whole_in 1 MAX_EXECUTORS) top
   groups ← groups_in top
-  channels ← required (codes "channels") (array_in 0 MAX_CHANNELS (channel_in version)) top
+  channels ← required (codes "channels") (array_in MAX_CHANNELS (channel_in version)) top
   Ok (record { capacity = capacity; loops = loops; groups = groups; channels = channels })
 
 -- ---- their limits

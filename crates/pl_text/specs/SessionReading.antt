@@ -118,12 +118,12 @@ abbrev pub each : {A B F : Type 0} → (A → Result B F) → List A → Result 
 each read [] = Ok []
 each read (d ∷ ds) = read d >>= λ x. each read ds >>= λ xs. Ok (x ∷ xs)
 
-abbrev pub of_length : {A : Type 0} → ℕ → ℕ → List A → Result (List A) SessionFault
-of_length low high ds = if nat_le low (length ds) && nat_le (length ds) high then Ok ds else Err Limit
+abbrev pub of_at_most : {A : Type 0} → ℕ → List A → Result (List A) SessionFault
+of_at_most most ds = if nat_le (length ds) most then Ok ds else Err Limit
 
 -- an array: its length first, then its elements by index
-abbrev pub array_in : {A : Type 0} → ℕ → ℕ → (Data → Result A SessionFault) → Data → Result (List A) SessionFault
-array_in low high read d = elements_of d >>= of_length low high >>= each read
+abbrev pub array_in : {A : Type 0} → ℕ → (Data → Result A SessionFault) → Data → Result (List A) SessionFault
+array_in most read d = elements_of d >>= of_at_most most >>= each read
 
 -- an array of any length
 abbrev pub array_of : {A : Type 0} → (Data → Result A SessionFault) → Data → Result (List A) SessionFault

@@ -10,7 +10,7 @@ mod printing;
 mod terms;
 
 use crate::faults::MovesFault;
-use copies::{left_of, moves_of_terms};
+use copies::{count_of, moves_of_terms};
 use pl_world::Move;
 pub use printing::{MoveTerm, moves_as_text};
 use std::alloc::Global;
@@ -52,10 +52,9 @@ pub fn read_moves(alloc: Global, text: &str) -> Result<Vec<Move>, MovesFault>
     ensures every { result ≡ Err fault.Limit → (ws : List Term) → Says text.now ws → MAX_MOVES < moves_said ws }
 {
     let terms = read_terms(alloc, text)?;
-    let Some(left) = left_of(MAX_MOVES, terms.as_slice()) else {
+    let Some(count) = count_of(MAX_MOVES, terms.as_slice()) else {
         return Err(MovesFault::Limit);
     };
-    let count = MAX_MOVES - left;
     let moves = moves_of_terms(alloc, terms.as_slice(), count).map_err(|_| MovesFault::Memory)?;
     Ok(moves)
 }

@@ -1,8 +1,8 @@
 -- What a turn sends, and what it leaves unsent.
 use Rattle.std.proofs.Common.{◌≡◌, ◌⊎◌, ℕ, Bool, true, false, List, Option, Some, None, inl, inr, refl, ap, sym, subst, ◌∙◌}
 use Rattle.std.specs.Prelude.{IfSome, IfNone}
-use Rattle.pl_flow.specs.declared.moves.HeadMove.{HeadMove}
-use Rattle.pl_flow.specs.declared.moves.HeadMove.TheVariants.{Read, Out}
+use Rattle.pl_flow.specs.declared.head_moves.HeadMove.{HeadMove}
+use Rattle.pl_flow.specs.declared.head_moves.HeadMove.TheVariants.{Read, Out}
 use Rattle.pl_context.specs.WaitingViews.{Entry, Holds}
 use Rattle.pl_words.specs.Admissions.{AdmittedView}
 use Rattle.pl_outbox.specs.Tries.{is_tried}

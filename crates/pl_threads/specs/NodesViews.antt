@@ -4,7 +4,7 @@ use Rattle.pl_event.specs.declared.envelopes.Envelope.{Envelope}
 use Rattle.pl_event.specs.declared.envelopes.Lane.{Lane}
 use Rattle.pl_event.specs.Worlds.{World}
 use Rattle.pl_context.specs.OutputsViews.{OutputsView}
-use Rattle.pl_flow.specs.declared.moves.HeadMove.{HeadMove}
+use Rattle.pl_flow.specs.declared.head_moves.HeadMove.{HeadMove}
 use Rattle.pl_flow.specs.LanesViews.{LanesView, SameRoutes}
 use Rattle.pl_flow.specs.Makes.{Makes}
 

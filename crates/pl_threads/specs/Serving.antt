@@ -1,7 +1,7 @@
 -- How often a channel was read and written by its head.
 use Rattle.std.specs.Prelude.{◌≡◌, ℕ, ◌+◌, ◌≤◌, Bool, true, false}
-use Rattle.pl_flow.specs.declared.moves.HeadMove.{HeadMove}
-use Rattle.pl_flow.specs.declared.moves.HeadMove.TheVariants.{Read, Out}
+use Rattle.pl_flow.specs.declared.head_moves.HeadMove.{HeadMove}
+use Rattle.pl_flow.specs.declared.head_moves.HeadMove.TheVariants.{Read, Out}
 
 -- How often a channel was served. It counts the read steps that were made, and the calls of the transport.
 pub record Served : Type 0 where

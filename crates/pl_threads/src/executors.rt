@@ -6,7 +6,7 @@ ghost use Rattle.pl_event.specs.Worlds.{FitsWorld};
 ghost use Rattle.pl_queue.specs.Rule.{TakerSees, WasOnce};
 ghost use Rattle.pl_queue.specs.Views.{next_of, after_take};
 ghost use Rattle.pl_context.specs.WaitingViews.{Entry, Holds};
-ghost use Rattle.pl_flow.specs.declared.moves.HeadMove.{HeadMove};
+ghost use Rattle.pl_flow.specs.declared.head_moves.HeadMove.{HeadMove};
 ghost use Rattle.pl_words.specs.declared.status.Status.TheVariants.{Accepting};
 ghost use Rattle.pl_words.specs.Phases.{rank};
 ghost use Rattle.pl_words.specs.Admissions.{AdmittedView, OwnerSeatView, new_owner_seat};
@@ -173,7 +173,10 @@ impl<'a, W: Named, M: Mailbox<W> + Drop, N: OwnNodes<W> + Drop> Executor<'a, W, 
             self.reads_wait = false;
             self.handed = self.handed.saturating_add(u32::from(handed));
             self.core.outboxes.update_congestion(&self.inbox.congestion);
-            self.write_one(rt, ran);
+            // Without a task no channel has more to write than before.
+            if ran {
+                self.write_one(rt);
+            }
             return true;
         }
         self.move_heads(rt)
@@ -248,21 +251,17 @@ impl<'a, W: Named, M: Mailbox<W> + Drop, N: OwnNodes<W> + Drop> Executor<'a, W, 
         self.core.outboxes.hand(rt)
     }
 
-    /// A write of the channel that is asked next, beside a task: without one no channel has more to write than before. Where
-    /// it had none, the one behind it is asked next.
-    fn write_one<R: Wait>(&mut self, rt: &R, ran: bool)
+    /// A write of the channel that is asked next, beside a task. Where it had none, the one behind it is asked next.
+    fn write_one<R: Wait>(&mut self, rt: &R)
         ensures serves { OnlyServes self.old self.new }
         ensures served { WritesAtMostOnce (N.served self.old.nodes) (N.served self.new.nodes) }
         ensures moves { ServesOne N.view_of N.acts self.old self.new }
     {
-        if !ran {
-            return;
-        }
-        let Some(at) = self.first() else {
+        let Some(at) = self.next_asked() else {
             return;
         };
         if !self.move_head(rt, HeadMove::Out, at) {
-            self.next = at.saturating_add(1);
+            self.next = at + 1;
         }
     }
 
@@ -287,7 +286,7 @@ impl<'a, W: Named, M: Mailbox<W> + Drop, N: OwnNodes<W> + Drop> Executor<'a, W, 
         ensures moves { ServesOne N.view_of N.acts self.old self.new }
         ensures idle { result ≡ false → (self.new ≡ self.old) × ((c : ℕ) → c < (N.view_of self.new.nodes).heads → (by : HeadMove) → is_asked reads by ≡ true → N.may_move self.new.nodes by c false) }
     {
-        let Some(first) = self.first() else {
+        let Some(first) = self.next_asked() else {
             return false;
         };
         let behind = self.head_count() - first;
@@ -306,8 +305,9 @@ impl<'a, W: Named, M: Mailbox<W> + Drop, N: OwnNodes<W> + Drop> Executor<'a, W, 
     }
 
     /// The channel that is asked next. None where none has its head here.
-    fn first(&self) -> Option<usize>
+    fn next_asked(&self) -> Option<usize>
         ensures there { IfSome result (λ at. at < (N.view_of self.now.nodes).heads) }
+        ensures few { (N.view_of self.now.nodes).heads < 2 ^ 64 }
         ensures none { IfNone result ((N.view_of self.now.nodes).heads ≡ 0) }
     {
         let count = self.head_count();
@@ -494,8 +494,8 @@ impl<'a, W: Named, M: Mailbox<W> + Drop, N: OwnNodes<W> + Drop> Executor<'a, W, 
     }
 }
 
-/// Takes the front of a queue, as `take` does, but looks first whether it is empty: a look is cheap, and the place for an
-/// envelope is not.
+/// Takes the front of a queue, as `take` does, but looks first whether it is empty: a look is cheap, and room for an envelope
+/// is not.
 fn next_task<W: Named, M: Mailbox<W>, R: Wait>(
     rt: &R,
     mailbox: &M,

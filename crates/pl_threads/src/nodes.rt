@@ -2,7 +2,7 @@
 
 ghost use Rattle.std.specs.Prelude.{◌≡◌, ◌<◌, ℕ, Bool, false, true};
 ghost use Rattle.pl_context.specs.Stops.{HasPlaces};
-ghost use Rattle.pl_flow.specs.declared.moves.HeadMove.{HeadMove};
+ghost use Rattle.pl_flow.specs.declared.head_moves.HeadMove.{HeadMove};
 ghost use Rattle.pl_flow.specs.Flows.{IsGood};
 ghost use Rattle.pl_flow.specs.LanesViews.{KeepsPlaces, taken_with};
 ghost use Rattle.pl_threads.specs.NodesViews.{OwnNodesView, NodesActs, NodesKeep, LanesMake};

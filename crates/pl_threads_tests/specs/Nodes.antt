@@ -3,8 +3,8 @@ use Rattle.std.specs.Prelude.{◌≡◌, ◌≢◌, ◌<◌, ◌≤◌, ◌^◌,
 use Rattle.pl_event.specs.declared.envelopes.Lane.{Lane}
 use Rattle.pl_event.specs.declared.envelopes.Kind.TheVariants.{Flags}
 use Rattle.pl_event.specs.Hops.{same_kind, same_lane, flags_lane}
-use Rattle.pl_flow.specs.declared.moves.HeadMove.{HeadMove}
-use Rattle.pl_flow.specs.declared.moves.HeadMove.TheVariants.{Read, Out}
+use Rattle.pl_flow.specs.declared.head_moves.HeadMove.{HeadMove}
+use Rattle.pl_flow.specs.declared.head_moves.HeadMove.TheVariants.{Read, Out}
 use Rattle.pl_flow.specs.Flows.{Point, point, nowhere}
 use Rattle.pl_threads.specs.NodesViews.{OwnNodesView}
 use Rattle.pl_threads_tests.specs.declared.nodes.Node.{Node}

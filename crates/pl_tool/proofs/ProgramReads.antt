@@ -1,18 +1,17 @@
 -- What clap finds on a command line is what it requests.
-use Rattle.std.proofs.Common.{◌≡◌, ◌∙◌, List, [], ◌∷◌, Bool, true, false, not, ◌&&◌, map, drop, Option, Some, None, refl, sym, ap, ap₂, codes, Bor, string_bytes, String, Global, arith}
-use Rattle.std.proofs.lemmas.Bool.Decides.{nat_tests}
+use Rattle.std.proofs.Common.{◌≡◌, ◌∙◌, List, [], ◌∷◌, Bool, false, not, ◌&&◌, map, drop, Option, Some, None, refl, sym, ap, ap₂, codes, Bor, string_bytes, String, Global, IfSome}
 use Rattle.std.specs.Prelude.{if◌then◌else◌, option_map, option_and_then, unwrap_or}
 use Rattle.std.specs.List.{list_any}
 use Rattle.std.specs.Str.{bytes_eq}
 use Rattle.clap.proofs.WalkLemmas.{list_any-map, first_value-rows}
 use Rattle.clap.specs.Faults.{fault_of}
-use Rattle.clap.specs.Kinds.{IsAmong, Kinds}
+use Rattle.clap.specs.Kinds.{Kinds}
 use Rattle.clap.specs.Matches.{first_value}
 use Rattle.clap.specs.Walk.{Row, Text, is_empty, rows_of}
 use Rattle.clap.specs.Simple.{subcommand_of}
-use Rattle.clap.specs.declared.error.kind.ErrorKind.{ErrorKind}
 use Rattle.clap.specs.declared.parser.matches.Found.{Found}
-use Rattle.pl_tool.specs.ProgramLines.{RequestView, Replay, Run, has_dash, program, queue_named, request_of, request_of_subcommand}
+use Rattle.pl_tool.specs.declared.program.command_line.Request.{Request}
+use Rattle.pl_tool.specs.ProgramLines.{RequestView, Replay, Run, has_dash, program, queue_named, request_of, request_of_subcommand, request_view}
 
 map_drop : (args : List (String Global)) → map string_bytes (drop 1 args) ≡ drop 1 (map string_bytes args)
 map_drop [] = refl
@@ -45,37 +44,11 @@ run_is_requested found name request is chose =
 
 -- ---- the line
 
-request_if : Bool → Kinds → Option RequestView → Option RequestView
-request_if dash faults found = if not dash && is_empty faults then found else None
-
-is_some_fault : (k : ErrorKind) (ks : Kinds) → is_empty (k ∷ ks) ≡ false
-is_some_fault k ks = grind (arith, nat_tests)
-
-no_request : (dash : Bool) (faults : Kinds) (found : Option RequestView) (k : ErrorKind) → IsAmong k faults → request_if dash faults found ≡ None
-unfolding request_if
-no_request dash [] found k h = absurd h
-no_request true (x ∷ xs) found k h = refl
-no_request false (x ∷ xs) found k h = ap (λ (b : Bool). if b then found else None) (is_some_fault x xs)
-
-request_is : (args : List (String Global)) → request_of (map string_bytes args)
-    ≡ request_if (list_any (λ w. bytes_eq (codes "-") (string_bytes w)) (drop 1 args)) (fault_of program (map string_bytes args)) (option_and_then request_of_subcommand (subcommand_of program (map string_bytes args)))
-unfolding request_if
-request_is args = ap (λ (b : Bool). request_if b (fault_of program (map string_bytes args)) (option_and_then request_of_subcommand (subcommand_of program (map string_bytes args)))) (sym (has_dash_is args))
-
--- a line with a lone -
-pub dash_is_refused : (args : List (String Global)) → list_any (λ w. bytes_eq (codes "-") (string_bytes w)) (drop 1 args) ≡ true → None ≡ request_of (map string_bytes args)
-unfolding request_if
-dash_is_refused args dash = sym (request_is args ∙ ap (λ (b : Bool). request_if b (fault_of program (map string_bytes args)) (option_and_then request_of_subcommand (subcommand_of program (map string_bytes args)))) dash)
-
--- a line of which clap has a fault to tell
-pub fault_is_refused : (args : List (String Global)) (k : ErrorKind) → IsAmong k (fault_of program (map string_bytes args)) → None ≡ request_of (map string_bytes args)
-fault_is_refused args k among = sym (request_is args ∙ no_request _ _ _ k among)
-
 -- a line that is read
-pub line_is_read : (args : List (String Global)) (dash : Bool) (rows : Option (Text × List Row)) (request : Option RequestView) → request ≡ option_and_then request_of_subcommand rows
+pub line_is_read : (args : List (String Global)) (dash : Bool) (rows : Option (Text × List Row)) (request : Option Request) → option_map request_view request ≡ option_and_then request_of_subcommand rows
     → rows ≡ subcommand_of program (map string_bytes args) → fault_of program (map string_bytes args) ≡ []
-    → dash ≡ list_any (λ w. bytes_eq (codes "-") (string_bytes w)) (drop 1 args) → dash ≡ false → request ≡ request_of (map string_bytes args)
-unfolding request_if
-line_is_read args dash rows request requested is no_fault dash_is no_dash =
-    requested ∙ ap (option_and_then request_of_subcommand) is
-    ∙ sym (request_is args ∙ ap₂ (λ (b : Bool) (f : Kinds). request_if b f (option_and_then request_of_subcommand (subcommand_of program (map string_bytes args)))) (sym dash_is ∙ no_dash) no_fault)
+    → dash ≡ list_any (λ w. bytes_eq (codes "-") (string_bytes w)) (drop 1 args) → dash ≡ false → IfSome request (λ r. request_of (map string_bytes args) ≡ Some (request_view r))
+line_is_read args dash rows None requested is no_fault dash_is no_dash = tt
+line_is_read args dash rows (Some r) requested is no_fault dash_is no_dash =
+    ap₂ (λ (b : Bool) (faults : Kinds). if not b && is_empty faults then option_and_then request_of_subcommand (subcommand_of program (map string_bytes args)) else None) (sym (has_dash_is args) ∙ sym dash_is ∙ no_dash) no_fault
+    ∙ sym (requested ∙ ap (option_and_then request_of_subcommand) is)

@@ -3,7 +3,6 @@
 ghost use Rattle.std.specs.Prelude.{◌≡◌, ◌≢◌, ◌⊎◌, ◌≤◌, List, ℕ, Bool, true, false, map, string_bytes, None, Some, IfErr, IfOk};
 ghost use Rattle.std.specs.IoError.{error_kind};
 ghost use Rattle.std.specs.Io.KnownBytes.{Keeps};
-ghost use Rattle.pl_tool.specs.declared.program.failure.Failure.TheVariants as failure;
 ghost use Rattle.pl_tool.specs.ProgramFailures.{failure_line, failure_of_args, status_of};
 ghost use Rattle.pl_tool.specs.ProgramLines.{Plain, Replay, Run, request_of, request_view};
 ghost use Rattle.pl_tool.specs.ProgramOutcomes.{AppendsPrefixOf, Explains, HasFailed, HasPrinted, IsCause, IsReported, TakesAtMost, all_drained};
@@ -35,16 +34,6 @@ struct NoGate;
 impl Gate for NoGate {
     /// Lets every turn begin.
     fn enter(&self, _executor: u16, _turn: u64) {}
-}
-
-/// What the command line requests. Out of memory inside `clap` counts as a line that is not read.
-fn request_or_usage<'a>(alloc: Global, args: &'a [String]) -> Result<Request<'a>, Failure>
-    ensures ok { IfOk result (λ request. request_of (map string_bytes args.entry.now) ≡ Some (request_view request)) }
-    ensures err { IfErr result (λ e. e ≡ failure.Usage) }
-{
-    request_of(alloc, args)
-        .unwrap_or(None)
-        .ok_or(Failure::Usage)
 }
 
 /// The report of a replay by the moves of a text. They are read before the session.
@@ -130,7 +119,7 @@ fn print_requested<T: Threads + Wait + Sync, R: Read, W: Write>(
         (R.remaining reader.old) (R.remaining reader.new) (W.contents out.old) (W.contents out.new)) }
     ensures at_most { TakesAtMost MAX_INPUT (R.remaining reader.old) (R.remaining reader.new) }
 {
-    let request = request_or_usage(alloc, args)?;
+    let request = request_of(alloc, args).ok_or(Failure::Usage)?;
     let report = report_of(rt, alloc, request, reader)?;
     print_report(alloc, &report, out)?;
     Ok(all_drained(&report))

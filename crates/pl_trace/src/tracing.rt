@@ -7,7 +7,7 @@ use ends::Ends;
 pub(crate) use ends::Gained;
 use notes::Notes;
 pub(crate) use notes::Step;
-use pl_channel::standing;
+use pl_channel::stands;
 use pl_event::Envelope;
 use pl_head::MemoryTransport;
 use pl_net::Station;
@@ -111,7 +111,7 @@ impl Tracer {
     /// How a channel stands.
     pub(crate) fn stands(&self, channel: u16) -> Stands {
         match (self.net.tail(channel), self.net.head(channel)) {
-            (Some(tail), Some(head)) => standing(tail, head),
+            (Some(tail), Some(head)) => stands(tail, head),
             _ => Stands::Open,
         }
     }

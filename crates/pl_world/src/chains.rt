@@ -61,7 +61,7 @@ pub(crate) fn pass<S: Stage>(
 }
 
 /// Each stage of a chain takes the whole list that the one before it makes toward an end. The last one's is the answer.
-pub(crate) fn feed<S: Stage>(
+pub(crate) fn pass_all<S: Stage>(
     alloc: Global,
     toward: Toward,
     stages: Vec<S>,

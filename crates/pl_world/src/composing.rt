@@ -6,7 +6,7 @@ ghost use Rattle.pl_world.specs.Plans.{channel_planned};
 ghost use Rattle.pl_world.specs.Sessions.{plan_of};
 ghost use Rattle.pl_world.specs.Reports.{whole_report};
 
-use crate::chains::{Toward, feed, pass};
+use crate::chains::{Toward, pass, pass_all};
 use crate::faults::ReplayFault;
 use crate::recorded_events::recorded_events;
 use crate::report::{ChannelReport, Report, Stands};
@@ -75,7 +75,7 @@ fn whole<S: Stage, T: Transport>(
         input,
         ..
     } = recorded;
-    let hop = pipeline.turn() as usize;
+    let hop = pipeline.turn();
     let (inbound, outbound) = pipeline.into_chains();
     let SplitChain {
         before,
@@ -83,10 +83,10 @@ fn whole<S: Stage, T: Transport>(
         after,
     } = split_chain(inbound, hop)?;
     let events = recorded_events(alloc, input.bursts)?;
-    let at_turn = feed(alloc, Toward::Tail, before, events)?;
+    let at_turn = pass_all(alloc, Toward::Tail, before, events)?;
     let made = pass(alloc, turn, at_turn)?;
-    let at_tail = feed(alloc, Toward::Tail, after, made.up)?;
-    let at_head = feed(alloc, Toward::Head, outbound, made.down)?;
+    let at_tail = pass_all(alloc, Toward::Tail, after, made.up)?;
+    let at_head = pass_all(alloc, Toward::Head, outbound, made.down)?;
     let (bytes, writes) = settle_writes(alloc, at_head)?;
     Ok(ChannelReport {
         stands: Stands::Drained,

@@ -19,17 +19,17 @@ pub(crate) struct SplitChain<S> {
 /// Splits an inbound chain at the hop of its turn.
 pub(crate) fn split_chain<S: Stage>(
     inbound: Vec<S>,
-    turn: usize,
+    hop: usize,
 ) -> Result<SplitChain<S>, AllocError>
-    requires turn { turn ≡ hop_of_turn S.meaning inbound.items }
-    requires within { turn < length inbound.items }
+    requires turn { hop ≡ hop_of_turn S.meaning inbound.items }
+    requires within { hop < length inbound.items }
     ensures whole { IfOk result (λ split. inbound.items ≡ split.before.items ++ split.turn ∷ split.after.items) }
     ensures before { IfOk result (λ split. list_any (λ stage. is_turn (S.meaning stage).direction) split.before.items ≡ false) }
     ensures turn { IfOk result (λ split. is_turn (S.meaning split.turn).direction ≡ true) }
 {
     let mut before = inbound;
-    let after = before.split_off(turn + 1)?;
-    let turn = before.remove(turn);
+    let after = before.split_off(hop + 1)?;
+    let turn = before.remove(hop);
     Ok(SplitChain {
         before,
         turn,

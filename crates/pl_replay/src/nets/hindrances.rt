@@ -1,12 +1,10 @@
 //! Why moves are not enabled.
 
-ghost use Rattle.std.specs.Prelude.{◌≡◌, ◌==◌, length};
 ghost use Rattle.pl_world.specs.declared.moves.Move.TheVariants.{Read, Task, Hand, Out};
 
 use super::Net;
 use pl_event::Stage;
 use pl_head::Transport;
-use pl_net::Station;
 use pl_world::Move;
 
 /// Why a move of a channel or of an executor is not enabled.
@@ -63,7 +61,7 @@ impl<S: Stage, T: Transport> Net<S, T> {
         ensures { TellsHindrance S.meaning S.stands_after S.is_spent T.state T.may_refuse (Task executor) self.now result }
     {
         let station = self.station(executor as usize)?;
-        if has_no_task(station) {
+        if station.queue().is_empty() {
             return Some(Hindrance::EmptyQueue);
         }
         None
@@ -96,11 +94,4 @@ impl<S: Stage, T: Transport> Net<S, T> {
         }
         Some(Hindrance::NothingFlushed)
     }
-}
-
-/// Whether nothing is queued at an executor.
-fn has_no_task(station: &Station) -> bool
-    ensures { result ≡ (length station.now.queue == 0) }
-{
-    station.queue().is_empty()
 }

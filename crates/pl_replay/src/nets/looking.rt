@@ -8,7 +8,6 @@ ghost use Rattle.pl_part.specs.Parts.{ChannelPartView};
 ghost use Rattle.pl_world.specs.Plans.{Plan};
 
 use super::Net;
-use crate::reporting::ends;
 use pl_context::Tail;
 use pl_event::Stage;
 use pl_head::{Head, Transport};
@@ -42,8 +41,7 @@ impl<S: Stage, T: Transport> Net<S, T> {
         ensures { MatchOption result (length self.now.nodes.parts.items ≤ channel)
             (λ tail. (part : ChannelPartView S T) × (slice_get self.now.nodes.parts.items channel ≡ Some part) × (part.path.tail ≡ Some tail.now)) }
     {
-        let (tail, _) = self.ends(channel)?;
-        Some(tail)
+        self.parts().get(channel as usize)?.tail()
     }
 
     /// The head of a channel. None where there is no such channel.
@@ -51,15 +49,6 @@ impl<S: Stage, T: Transport> Net<S, T> {
         ensures { MatchOption result (length self.now.nodes.parts.items ≤ channel)
             (λ head. (part : ChannelPartView S T) × (slice_get self.now.nodes.parts.items channel ≡ Some part) × (part.head ≡ Some head.now)) }
     {
-        let (_, head) = self.ends(channel)?;
-        Some(head)
-    }
-
-    /// Both ends of a channel. None where there is no such channel.
-    fn ends(&self, channel: u16) -> Option<(&Tail, &Head<T>)>
-        ensures { MatchOption result (length self.now.nodes.parts.items ≤ channel)
-            (λ ends. (part : ChannelPartView S T) × (slice_get self.now.nodes.parts.items channel ≡ Some part) × (part.path.tail ≡ Some ends.0.now) × (part.head ≡ Some ends.1.now)) }
-    {
-        Some(ends(self.parts().get(channel as usize)?))
+        self.parts().get(channel as usize)?.head()
     }
 }

@@ -1,6 +1,6 @@
 //! The moves of terms: as many copies of each as its term says.
 
-ghost use Rattle.std.specs.Prelude.{◌≡◌, ◌+◌, ◌<◌, IfOk, MatchOption};
+ghost use Rattle.std.specs.Prelude.{◌≡◌, ◌≤◌, ◌<◌, IfOk, MatchOption};
 ghost use Rattle.pl_text.specs.MovesTexts.{copies_of_term, moves_said, moves_of_terms};
 
 use super::terms::Term;
@@ -14,15 +14,15 @@ fn times(term: &Term) -> u32
     term.count.unwrap_or(1)
 }
 
-/// What is left of a limit after all moves of the terms, or None where they pass it.
-pub(crate) fn left_of(limit: usize, terms: &[Term]) -> Option<usize>
-    ensures { MatchOption result (limit < moves_said terms.now) (λ left. left + moves_said terms.now ≡ limit) }
+/// How many moves the terms say, or None where they are more than a limit.
+pub(crate) fn count_of(limit: usize, terms: &[Term]) -> Option<usize>
+    ensures { MatchOption result (limit < moves_said terms.now) (λ count. (count ≡ moves_said terms.now) × (count ≤ limit)) }
 {
-    let mut left = limit;
+    let mut count = 0usize;
     for term in terms {
-        left = left.checked_sub(times(term) as usize)?;
+        count = count.checked_add(times(term) as usize)?;
     }
-    Some(left)
+    (count <= limit).then_some(count)
 }
 
 /// The moves of the terms, of which there are `len`.

@@ -115,17 +115,13 @@ fn channel_built(
 {
     let mut builder = all_edited(alloc, channel.edits.as_slice())?;
     builder.marks(channel.low, channel.high)?;
-    match builder.build(groups) {
-        Ok(pipeline) => {
-            let transport = MemoryTransport::new(alloc, channel.window, channel.fail_at);
-            let input = ReadPlan {
-                bursts: channel.bursts,
-                abort_after: channel.abort_after,
-            };
-            Ok(Recorded::new(pipeline, input, transport))
-        }
-        Err(unbuilt) => Err(unbuilt.fault),
-    }
+    let pipeline = builder.build(groups)?;
+    let transport = MemoryTransport::new(alloc, channel.window, channel.fail_at);
+    let input = ReadPlan {
+        bursts: channel.bursts,
+        abort_after: channel.abort_after,
+    };
+    Ok(Recorded::new(pipeline, input, transport))
 }
 
 // ---- edits

@@ -30,7 +30,7 @@ impl FromData for ChannelOutline {
     ) -> Result<ChannelOutline, SessionFault> {
         let mut channel = an_object(value)?;
         let edits = taken(&mut channel, "handlers").ok_or(SessionFault::Missing)?;
-        let edits = array_in::<Edit>(alloc, version, 0, MAX_EDITS, edits)?;
+        let edits = array_in::<Edit>(alloc, version, MAX_EDITS, edits)?;
         let low = mark_in("low", DEFAULT_LOW, &channel)?;
         let high = mark_in("high", DEFAULT_HIGH, &channel)?;
         let window = window_in(&channel)?;
@@ -105,7 +105,7 @@ fn bursts_in(
     ensures meaning { AnswersMeaning result (bursts_in version (view value)) }
     ensures few { IfOk result (λ bursts. length bursts ≤ MAX_BURSTS) }
 {
-    let bursts = array_in::<Sequence<Element>>(alloc, version, 0, MAX_BURSTS, value)?;
+    let bursts = array_in::<Sequence<Element>>(alloc, version, MAX_BURSTS, value)?;
     if !fits(bursts.as_slice()) {
         return Err(SessionFault::Limit);
     }

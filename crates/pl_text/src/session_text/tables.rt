@@ -79,7 +79,7 @@ pub(crate) fn outline_in(alloc: Global, value: Value) -> Result<Outline, Session
     let loops = whole_in(1, u64::from(MAX_EXECUTORS), required(&top, "loops")?)?;
     let groups = groups_in(alloc, version, &mut top)?;
     let channels = taken(&mut top, "channels").ok_or(SessionFault::Missing)?;
-    let channels = array_in::<ChannelOutline>(alloc, version, 0, MAX_CHANNELS, channels)?;
+    let channels = array_in::<ChannelOutline>(alloc, version, MAX_CHANNELS, channels)?;
     Ok(Outline {
         capacity: capacity as u32,
         loops: loops as u16,

@@ -146,18 +146,17 @@ fn each<T: FromData>(
     Ok(Sequence::from_vec(read))
 }
 
-/// An array whose length is in a range: its length first, then its elements.
+/// An array of at most so many elements: its length first, then these.
 pub(crate) fn array_in<T: FromData>(
     alloc: Global,
     version: Version,
-    low: usize,
-    high: usize,
+    most: usize,
     value: Value,
 ) -> Result<Sequence<T::Read>, SessionFault>
-    ensures { AnswersMeaning result (array_in low high (T.meaning version) (view value)) }
+    ensures { AnswersMeaning result (array_in most (T.meaning version) (view value)) }
 {
     let values = elements_of(value)?;
-    if values.len() < low || high < values.len() {
+    if most < values.len() {
         return Err(SessionFault::Limit);
     }
     each::<T>(alloc, version, values)

@@ -1,12 +1,11 @@
 //! What the command line requests, as `clap` reads it.
 
-ghost use Rattle.std.specs.Prelude.{◌≡◌, [], codes, drop, map, option_and_then, option_map, string_bytes, unwrap_or, IfOk};
+ghost use Rattle.std.specs.Prelude.{◌≡◌, [], Some, codes, drop, map, option_and_then, option_map, string_bytes, unwrap_or, IfOk, IfSome};
 ghost use Rattle.std.specs.List.{list_any};
 ghost use Rattle.std.specs.Str.{bytes_eq};
 ghost use Rattle.clap.specs.Words.{FailsBy, app_of, fault_of, first_value, found_of, rows_of, subcommand_of, subcommand_rows_of, with_subcommand};
 ghost use Rattle.pl_tool.specs.ProgramLines.{Run, subcommand_with, program, queue_named, request_of, request_of_subcommand, request_view};
 
-use clap::error::ErrorKind;
 use clap::{Arg, ArgAction, ArgMatches, Command, Error};
 use pl_exec::QueueKind;
 use std::alloc::{AllocError, Global};
@@ -123,21 +122,16 @@ fn request_in<'a>(matches: &ArgMatches<'a>) -> Option<Request<'a>>
     request_of_subcommand(name, found)
 }
 
-/// What the command line requests, or None where it is not read. The first argument is the program's name. It fails only
-/// out of memory.
-#[tactic(auto, using(crate::proofs::ProgramReads::dash_is_refused, crate::proofs::ProgramReads::fault_is_refused))]
-pub(crate) fn request_of<'a>(
-    alloc: Global,
-    args: &'a [String],
-) -> Result<Option<Request<'a>>, AllocError>
-    ensures { IfOk result (λ request. option_map request_view request ≡ request_of (map string_bytes args.entry.now)) }
+/// What the command line requests, or None where it is not read. The first argument is the program's name. Out of memory
+/// inside `clap` counts as a line that is not read.
+pub(crate) fn request_of<'a>(alloc: Global, args: &'a [String]) -> Option<Request<'a>>
+    ensures { IfSome result (λ request. request_of (map string_bytes args.entry.now) ≡ Some (request_view request)) }
 {
     if has_dash(args) {
-        return Ok(None);
+        return None;
     }
-    match matches_of(alloc, args) {
-        Ok(matches) => Ok(request_in(&matches)),
-        Err(error) if error.kind() == ErrorKind::OutOfMemory => Err(AllocError),
-        Err(_) => Ok(None),
-    }
+    let Ok(matches) = matches_of(alloc, args) else {
+        return None;
+    };
+    request_in(&matches)
 }

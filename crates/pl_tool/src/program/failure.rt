@@ -54,19 +54,6 @@ impl Failure {
         }
     }
 
-    /// This failure, or `Memory` where its fault says that memory ran out: that is one failure, wherever it comes from.
-    pub(crate) fn or_memory(self) -> Failure
-        ensures { result ≡ or_memory self }
-    {
-        match self {
-            Failure::Moves(MovesFault::Memory)
-            | Failure::Replay(ReplayFault::Memory)
-            | Failure::Session(SessionFault::Memory)
-            | Failure::Run(RunFault::Memory) => Failure::Memory,
-            _ => self,
-        }
-    }
-
     /// The status that the program ends with.
     pub(crate) fn status(self) -> u8
         ensures { result ≡ status_of self }
@@ -123,12 +110,15 @@ fn build_line(fault: BuildFault) -> &'static str
     }
 }
 
-/// Moves that were not read.
+/// Moves that were not read. Memory that ran out is one failure, wherever it did.
 impl From<MovesFault> for Failure {
     ghost from_gives = { λ fault e. e ≡ or_memory (failure.Moves fault) };
 
     fn from(fault: MovesFault) -> Failure {
-        Failure::Moves(fault).or_memory()
+        match fault {
+            MovesFault::Memory => Failure::Memory,
+            _ => Failure::Moves(fault),
+        }
     }
 }
 
@@ -137,7 +127,10 @@ impl From<SessionFault> for Failure {
     ghost from_gives = { λ fault e. e ≡ or_memory (failure.Session fault) };
 
     fn from(fault: SessionFault) -> Failure {
-        Failure::Session(fault).or_memory()
+        match fault {
+            SessionFault::Memory => Failure::Memory,
+            _ => Failure::Session(fault),
+        }
     }
 }
 
@@ -146,7 +139,10 @@ impl From<ReplayFault> for Failure {
     ghost from_gives = { λ fault e. e ≡ or_memory (failure.Replay fault) };
 
     fn from(fault: ReplayFault) -> Failure {
-        Failure::Replay(fault).or_memory()
+        match fault {
+            ReplayFault::Memory => Failure::Memory,
+            _ => Failure::Replay(fault),
+        }
     }
 }
 
@@ -155,7 +151,10 @@ impl From<RunFault> for Failure {
     ghost from_gives = { λ fault e. e ≡ or_memory (failure.Run fault) };
 
     fn from(fault: RunFault) -> Failure {
-        Failure::Run(fault).or_memory()
+        match fault {
+            RunFault::Memory => Failure::Memory,
+            _ => Failure::Run(fault),
+        }
     }
 }
 

@@ -180,7 +180,7 @@ fn writer_of(pipeline: &Placed<Handler>, hop: u16) -> u16 {
     if hop == 0 {
         tail.saturating_add(pipeline.outbound()).saturating_add(1)
     } else if hop == tail.saturating_add(1) {
-        pipeline.turn()
+        pipeline.turn() as u16
     } else {
         hop.saturating_sub(1)
     }

@@ -1,6 +1,6 @@
 //! What comes to the two ends of a channel.
 
-use pl_channel::standing;
+use pl_channel::stands;
 use pl_context::Tail;
 use pl_event::{Event, Outcome};
 use pl_head::{Head, Transport};
@@ -56,7 +56,7 @@ impl Ends {
         self.events = tail.record().len();
         self.bytes = head.bytes().len();
         self.settled = head.settled().len();
-        self.stands = standing(tail, head);
+        self.stands = stands(tail, head);
         let has_changed = self.stands != was.stands;
         Ok(Gained {
             channel,

@@ -4,7 +4,7 @@ use Rattle.pl_channel.proofs.reports.into_report.Goals as goal
 
 pub returns-clause-ends : goal.returns-clause-ends
 returns-clause-ends g c = λ ys zs sizes after. record {
-  stands_is = c.standing-stands.ensures ys zs sizes after;
+  stands_is = c.stands-stands.ensures ys zs sizes after;
   tail_is = c.into_record.ensures;
   bytes_are = c.in_ok-bytes.ensures.prefix ys zs sizes after;
   writes_are = c.in_ok-bytes.ensures.outcomes ys zs sizes after;

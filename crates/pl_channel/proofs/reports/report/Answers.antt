@@ -5,7 +5,7 @@ use Rattle.pl_channel.proofs.reports.report.Goals as goal
 
 pub returns-clause-ends : goal.returns-clause-ends
 returns-clause-ends g c = λ ys zs sizes after. record {
-  stands_is = c.standing.ensures ys zs sizes after;
+  stands_is = c.stands.ensures ys zs sizes after;
   tail_is = c.from_vec.ensures ∙ c.in_ok-to_vec.ensures.items_if_clones_equal clone-event ∙ c.record.ensures;
   bytes_are = c.in_ok-bytes.ensures.prefix ys zs sizes after;
   writes_are = c.in_ok-bytes.ensures.outcomes ys zs sizes after;

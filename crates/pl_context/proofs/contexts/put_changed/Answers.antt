@@ -12,8 +12,8 @@ hand_on-requires-clause-none c = ap (λ (s : StopsView). any_stopped s) c.reserv
 
 pub put_all-requires-clause-room : goal.put_all-requires-clause-room
 put_all-requires-clause-room c = λ o.
-    let few = length-put_out c.reserve.new.self.stopped c.args.up.now (c.args.envelope.item ∷ []) c.places-above.result c.places-above.ensures in
-    let own = open-count c.args.down.now.is_open c.len.result c.places.result c.places.ensures o in
+    let few = length-put_out c.reserve.new.self.stopped c.args.up.now (c.args.envelope.item ∷ []) c.room_for-events_up.result c.room_for-events_up.ensures in
+    let own = open-count c.args.down.now.is_open c.len.result c.room_for-events_down.result c.room_for-events_down.ensures o in
     omega (arith, c.in-Ok.ensures.room, c.hand_on.ensures.out.room, few, own, c.len.ensures, c.args.below.now.ok.0)
 
 pub returns-in-Ok-clause-puts : goal.returns-in-Ok-clause-puts
@@ -32,7 +32,7 @@ returns-in-Ok-clause-puts c =
 pub returns-in-Err-clause-none : goal.returns-in-Err-clause-none
 returns-in-Err-clause-none c =
     let below_len : c.len.result ≡ length (as_items c.args.below.now.items) = omega (arith, c.len.ensures, c.args.below.now.ok.0, length-items c.args.below.now.items) in
-    let one = length-offered c.args.up.now (c.args.envelope.item ∷ []) c.places-above.result c.places-above.ensures in
-    let two = length-offered c.args.down.now (as_items c.args.below.now.items) c.places.result (c.places.ensures ∙ ap (λ (n : ℕ). if c.args.down.now.is_open then n else 0) below_len) in
+    let one = length-offered c.args.up.now (c.args.envelope.item ∷ []) c.room_for-events_up.result c.room_for-events_up.ensures in
+    let two = length-offered c.args.down.now (as_items c.args.below.now.items) c.room_for-events_down.result (c.room_for-events_down.ensures ∙ ap (λ (n : ℕ). if c.args.down.now.is_open then n else 0) below_len) in
     none-put (c.args.envelope.item ∷ []) (as_items c.args.below.now.items) c.args.up.now c.args.down.now c.args.outputs.now c.reserve.new.self c.reserve.ensures.items c.reserve.ensures.stopped c.reserve.ensures.grows
     (omega (arith, c.in-Err.ensures.refused, one, two, length-append (offered c.args.up.now (c.args.envelope.item ∷ [])) (offered c.args.down.now (as_items c.args.below.now.items))))

@@ -15,7 +15,7 @@ loop-way-init c =
     let left = ways_in (into_iter_items c.into_iter-way-iterator.result) in
     record {
       origins = ap (λ (l : List ℕ). l ++ map (λ (w : Way). w.origin) left) c.in_ok-origins.ensures.items ∙ ap (λ (l : List WayIn). map (λ (w : Way). w.origin) (ways_in l)) all;
-      lanes = ap (λ (l : List (Vec Lane)). map (λ (s : Vec Lane). s.items) l ++ map (λ (w : Way). w.lanes) left) c.in_ok-all.ensures.items ∙ ap (λ (l : List WayIn). map (λ (w : Way). w.lanes) (ways_in l)) all;
+      lanes = ap (λ (l : List (Vec Lane)). map (λ (s : Vec Lane). s.items) l ++ map (λ (w : Way). w.lanes) left) c.in_ok-lanes.ensures.items ∙ ap (λ (l : List WayIn). map (λ (w : Way). w.lanes) (ways_in l)) all;
     }
 
 pub loop-way-preserved : goal.loop-way-preserved
@@ -27,8 +27,8 @@ loop-way-preserved c =
     record {
       origins = made-next (λ (w : Way). w.origin) (map (λ (w : Way). w.origin) ways) c.loop-way.origins.items c.push.new.self.items left rest (way_of c.in-Some.way) front c.in_ok-push.ensures.items c.loop-way.invariant.origins;
       lanes =
-          made-next (λ (w : Way). w.lanes) (map (λ (w : Way). w.lanes) ways) (map (λ (s : Vec Lane). s.items) c.loop-way.all.items) (map (λ (s : Vec Lane). s.items) c.push-in-loop-way.new.self.items) left rest (way_of c.in-Some.way) front
-          (ap (λ (l : List (Vec Lane)). map (λ (s : Vec Lane). s.items) l) c.in_ok-push-2.ensures.items ∙ map_push (λ (s : Vec Lane). s.items) c.loop-way.all.items c.in-Some.way.lanes) c.loop-way.invariant.lanes;
+          made-next (λ (w : Way). w.lanes) (map (λ (w : Way). w.lanes) ways) (map (λ (s : Vec Lane). s.items) c.loop-way.lanes.items) (map (λ (s : Vec Lane). s.items) c.push-in-loop-way.new.self.items) left rest (way_of c.in-Some.way) front
+          (ap (λ (l : List (Vec Lane)). map (λ (s : Vec Lane). s.items) l) c.in_ok-push-2.ensures.items ∙ map_push (λ (s : Vec Lane). s.items) c.loop-way.lanes.items c.in-Some.way.lanes) c.loop-way.invariant.lanes;
     }
 
 pub returns-clause-origins : goal.returns-clause-origins
@@ -41,4 +41,4 @@ pub returns-clause-lanes : goal.returns-clause-lanes
 returns-clause-lanes c =
     let left = c.loop-way.way-iterator.rest in
     let none = ap (λ (l : List WayIn). ways_in l) (nil_from_length left.items (omega (arith, c.in-None.ensures.steps.0, left.ok))) in
-    made-whole (λ (w : Way). w.lanes) (map (λ (w : Way). w.lanes) (ways_in c.args.ways.items)) (map (λ (s : Vec Lane). s.items) c.loop-way.all.items) (ways_in left.items) none c.loop-way.invariant.lanes
+    made-whole (λ (w : Way). w.lanes) (map (λ (w : Way). w.lanes) (ways_in c.args.ways.items)) (map (λ (s : Vec Lane). s.items) c.loop-way.lanes.items) (ways_in left.items) none c.loop-way.invariant.lanes

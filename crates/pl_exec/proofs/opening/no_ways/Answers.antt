@@ -6,11 +6,11 @@ use Rattle.pl_exec.proofs.opening.no_ways.Goals as goal
 pub loop-inbox-preserved : goal.loop-inbox-preserved
 loop-inbox-preserved g c =
     let inv = c.loop-inbox.invariant in
-    let all = c.loop-inbox.all.items in
+    let rows = c.loop-inbox.rows.items in
     let new = c.in_ok-none.field-0 in
     let none = λ (v : WaysView). v ≡ no_ways (length c.args.inboxes.now) in
     let pushed = ap (λ (l : List WaysView). length l) c.in_ok-push.ensures.items in
     record {
-      count = omega (arith, pushed, inv.count, length-append all (new ∷ []));
-      none = All-same none c.push.new.self.items (all ++ new ∷ []) c.in_ok-push.ensures.items (All-push none all new inv.none c.in_ok-none.ensures);
+      count = omega (arith, pushed, inv.count, length-append rows (new ∷ []));
+      none = All-same none c.push.new.self.items (rows ++ new ∷ []) c.in_ok-push.ensures.items (All-push none rows new inv.none c.in_ok-none.ensures);
     }

@@ -5,6 +5,6 @@ use Rattle.pl_exec.proofs.opening.no_ways.Given as goal
 
 abbrev pub invariant-loop-inbox : goal.invariant-loop-inbox
 invariant-loop-inbox g l = record {
-  count : length l.all.items ≡ l._inbox-index;
-  none : All (λ ways. ways ≡ no_ways (length l.inboxes)) l.all.items;
+  count : length l.rows.items ≡ l._inbox-index;
+  none : All (λ ways. ways ≡ no_ways (length l.inboxes)) l.rows.items;
 }

@@ -10,8 +10,8 @@ use Rattle.pl_exec.proofs.WaysMade.{ways-at, ways-mailbox, own-lanes}
 use Rattle.pl_exec.proofs.opening.open_all.Goals as goal
 use Rattle.pl_exec.proofs.opening.open_all.Goals.{In-Some}
 
-pub all_ways-requires : goal.all_ways-requires
-all_ways-requires g c = record { few = let size = table-rows c.args.lanes.items in omega (arith, size, c.requires.few) }
+pub ways_by_target-requires : goal.ways_by_target-requires
+ways_by_target-requires g c = record { few = let size = table-rows c.args.lanes.items in omega (arith, size, c.requires.few) }
 
 pub loop-ways-init : goal.loop-ways-init
 loop-ways-init g c = record {
@@ -58,9 +58,9 @@ loop-ways-preserved g c =
       count = omega (arith, pushed, inv.count, length-append inboxes (made.inbox ∷ []), length-append done (ways ∷ []));
       opened =
           opened-next M.ends inbox_view lanes inboxes c.push.new.self.items c.loop-ways.ends.items c.push-in-loop-ways.new.self.items c.loop-ways.columns.items c.push-in-loop-ways-2.new.self.items
-          made.inbox made.own made.column (lanes_to lanes target) inv.opened is.0
-          (own-lanes M.ends (inbox_view made.inbox) (map (λ (w : Way). w.lanes) (ways_to target (lanes_to lanes target))) (lanes_to lanes target) made.own (ways-lanes target 0 (lanes_to lanes target))
-          (subst (λ (ws : List Way). IsOwn M.ends (inbox_view made.inbox) (map (λ (w : Way). w.lanes) ws) made.own) is.1 made.ensures.own))
+          made.inbox made.own_ends made.column (lanes_to lanes target) inv.opened is.0
+          (own-lanes M.ends (inbox_view made.inbox) (map (λ (w : Way). w.lanes) (ways_to target (lanes_to lanes target))) (lanes_to lanes target) made.own_ends (ways-lanes target 0 (lanes_to lanes target))
+          (subst (λ (ws : List Way). IsOwn M.ends (inbox_view made.inbox) (map (λ (w : Way). w.lanes) ws) made.own_ends) is.1 made.ensures.own))
           (subst (λ (ws : List Way). IsColumn M.ends (inbox_view made.inbox) ws made.column) is.1 made.ensures.column) c.in_ok-push.ensures.items c.in_ok-push-2.ensures.items c.in_ok-push-3.ensures.items;
       capacity = All-same holds c.push.new.self.items (inboxes ++ made.inbox ∷ []) c.in_ok-push.ensures.items (All-push holds inboxes made.inbox inv.capacity made.ensures.capacity);
     }

@@ -15,12 +15,12 @@ overflow_add-target g c =
 
 pub loop-column-init : goal.loop-column-init
 loop-column-init g c =
-    let none = c.in_ok-all.ensures in
+    let none = c.in_ok-rows.ensures in
     record {
       at = refl;
       rest = search rules;
       count = none.count;
-      ways = λ lanes can. ways-start lanes c.args.places.now (length c.args.inboxes.now) c.in_ok-all.all.items (sym (inboxes-count c.args.inboxes.now) ∙ can.inboxes_count) none.none;
+      ways = λ lanes can. ways-start lanes c.args.places.now (length c.args.inboxes.now) c.in_ok-rows.rows.items (sym (inboxes-count c.args.inboxes.now) ∙ can.inboxes_count) none.none;
     }
 
 pub deal-requires-clause-few : goal.deal-requires-clause-few
@@ -33,7 +33,7 @@ deal-requires-clause-deal g c =
     let inboxes = map inbox_view c.args.inboxes.now in
     let at = at-next c.args.columns.items c.loop-column.yielded c.loop-column.column-iterator.rest.items c.next.new.self.rest.items c.in-Some.column c.loop-column.target inv.rest c.in-Some.ensures.steps.0 inv.at in (
       can.0,
-      can-deal g.M.Mailbox.ends can.0 inboxes c.args.columns.items c.args.places.now c.loop-column.target c.in-Some.column c.loop-column.all.items can.1 at (inv.count ∙ sym (inboxes-count c.args.inboxes.now)) (inv.ways can.0 can.1),
+      can-deal g.M.Mailbox.ends can.0 inboxes c.args.columns.items c.args.places.now c.loop-column.target c.in-Some.column c.loop-column.rows.items can.1 at (inv.count ∙ sym (inboxes-count c.args.inboxes.now)) (inv.ways can.0 can.1),
     )
 
 pub loop-column-preserved : goal.loop-column-preserved
@@ -50,7 +50,7 @@ loop-column-preserved g c =
       rest = one-more c.args.columns.items done c.loop-column.column-iterator.rest.items rest column front inv.rest;
       count = c.in_ok-deal.ensures.count ∙ inv.count;
       ways = λ lanes can. c.in_ok-deal.ensures.ways lanes
-          (can-deal g.M.Mailbox.ends lanes inboxes c.args.columns.items c.args.places.now c.loop-column.target column c.loop-column.all.items can at (inv.count ∙ sym (inboxes-count c.args.inboxes.now)) (inv.ways lanes can));
+          (can-deal g.M.Mailbox.ends lanes inboxes c.args.columns.items c.args.places.now c.loop-column.target column c.loop-column.rows.items can at (inv.count ∙ sym (inboxes-count c.args.inboxes.now)) (inv.ways lanes can));
     }
 
 pub returns-clause-count : goal.returns-clause-count
@@ -62,4 +62,4 @@ returns-clause-ways g c =
     let left = c.loop-column.column-iterator.rest in
     let done = all-done c.args.columns.items c.loop-column.yielded left.items (nil_from_length left.items (omega (arith, c.in-None.ensures.steps.0, left.ok))) inv.rest in
     λ lanes can.
-    subst (λ (n : ℕ). HaveWays lanes c.args.places.now n c.loop-column.all.items) (inv.at ∙ ap (λ (l : List (ColumnView g.row.M-Sender.Denot)). length l) done ∙ can.whole.count ∙ can.inboxes_count) (inv.ways lanes can)
+    subst (λ (n : ℕ). HaveWays lanes c.args.places.now n c.loop-column.rows.items) (inv.at ∙ ap (λ (l : List (ColumnView g.row.M-Sender.Denot)). length l) done ∙ can.whole.count ∙ can.inboxes_count) (inv.ways lanes can)

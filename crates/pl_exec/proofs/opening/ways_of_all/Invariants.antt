@@ -7,6 +7,6 @@ abbrev pub invariant-loop-column : goal.invariant-loop-column
 invariant-loop-column g l = record {
   at : l.target ≡ length l.yielded;
   rest : l.yielded ++ into_iter_items l.column-iterator ≡ l.fn.columns.items;
-  count : length l.all.items ≡ length l.inboxes;
-  ways : (lanes : LaneTable) → CanDealAll g.M.Mailbox.ends lanes (map inbox_view l.inboxes) l.fn.columns.items l.places → HaveWays lanes l.places l.target l.all.items;
+  count : length l.rows.items ≡ length l.inboxes;
+  ways : (lanes : LaneTable) → CanDealAll g.M.Mailbox.ends lanes (map inbox_view l.inboxes) l.fn.columns.items l.places → HaveWays lanes l.places l.target l.rows.items;
 }

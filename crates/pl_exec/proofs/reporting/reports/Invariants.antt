@@ -7,6 +7,6 @@ use Rattle.pl_exec.proofs.reporting.reports.Given as goal
 -- The channels so far are reported.
 abbrev pub invariant-loop-found : goal.invariant-loop-found
 invariant-loop-found g l = record {
-  rest : l.yielded ++ into_iter_items l.found-iterator ≡ l.fn.all.items;
+  rest : l.yielded ++ into_iter_items l.found-iterator ≡ l.fn.ends.items;
   reported : AllZip (IsFinalReport g.T.Transport.state) l.yielded l.reports.items;
 }

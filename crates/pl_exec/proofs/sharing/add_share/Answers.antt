@@ -21,7 +21,7 @@ returns-clause-got g c =
     record {
       same = refl;
       parts = c.in_ok-push-2.ensures.items;
-      own = c.in_ok-note_if.ensures ∙ (λ i. n.own.items ++ cond (head i) (size i ∷ []) []);
+      own = c.in_ok-note_if.ensures ∙ (λ i. n.heads.items ++ cond (head i) (size i ∷ []) []);
       seats = c.in_ok-push.ensures.items ∙ (λ i. n.seats.items ++ slot i ∷ []);
     }
 

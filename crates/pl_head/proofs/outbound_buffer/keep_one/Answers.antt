@@ -6,8 +6,8 @@ use Rattle.pl_head.proofs.outbound_buffer.keep_one.Goals as goal
 use Rattle.pl_head.proofs.outbound_buffer.keep_one.Goals.{After-index-number}
 
 -- the number at the place, by any default
-read : (c : After-index-number) → c.index-number.result.now ≡ get_or c.args.numbers.now.items c.args.place 0
-read c = c.index-number.ensures ∙ get_or_default c.args.numbers.now.items c.args.place c.index-number.result.now 0 c.requires.within
+read : (c : After-index-number) → c.index-number.result.now ≡ get_or c.args.numbers.now.items c.args.index 0
+read c = c.index-number.ensures ∙ get_or_default c.args.numbers.now.items c.args.index c.index-number.result.now 0 c.requires.within
 
 pub returns-then-number-first-clause-kept : goal.returns-then-number-first-clause-kept
 returns-then-number-first-clause-kept c =
@@ -27,7 +27,7 @@ returns-clause-kept c =
 
 pub returns-clause-left : goal.returns-clause-left
 returns-clause-left c =
-    drop-set-lt (c.args.place + 1) c.args.numbers.now.items c.args.kept (c.index-number.result.now - c.args.first) (omega (arith, c.requires.before))
+    drop-set-lt (c.args.index + 1) c.args.numbers.now.items c.args.kept (c.index-number.result.now - c.args.first) (omega (arith, c.requires.before))
 
 pub returns-clause-length : goal.returns-clause-length
 returns-clause-length c = length-set c.args.numbers.now.items c.args.kept (c.index-number.result.now - c.args.first)

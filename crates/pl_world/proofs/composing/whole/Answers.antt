@@ -14,8 +14,8 @@ use Rattle.pl_world.proofs.SplitChains.{split_new}
 use Rattle.pl_world.proofs.PathLanes.{tail_is, head_is}
 use Rattle.pl_world.proofs.composing.whole.Goals as goal
 
-pub feed-requires : goal.feed-requires
-feed-requires g c =
+pub pass_all-requires : goal.pass_all-requires
+pass_all-requires g c =
     let split = c.in_ok-before.field-0 in
     record { new = (split_new g.S.Stage.stands_after c.into_chains-inbound.result.0.items split.before.items split.turn split.after.items c.in_ok-before.ensures.whole c.into_chains-inbound.ensures.new_inbound).0 }
 
@@ -24,8 +24,8 @@ pass-requires g c =
     let split = c.in_ok-before.field-0 in
     record { new = (split_new g.S.Stage.stands_after c.into_chains-inbound.result.0.items split.before.items split.turn split.after.items c.in_ok-before.ensures.whole c.into_chains-inbound.ensures.new_inbound).1 }
 
-pub feed-requires-2 : goal.feed-requires-2
-feed-requires-2 g c =
+pub pass_all-requires-2 : goal.pass_all-requires-2
+pass_all-requires-2 g c =
     let split = c.in_ok-before.field-0 in
     record { new = (split_new g.S.Stage.stands_after c.into_chains-inbound.result.0.items split.before.items split.turn split.after.items c.in_ok-before.ensures.whole c.into_chains-inbound.ensures.new_inbound).2 }
 

@@ -10,7 +10,7 @@ pub returns-clause-before : goal.returns-clause-before
 returns-clause-before g c =
     let turns = λ (s : g.row.S.Denot). is_turn (g.S.Stage.meaning s).direction in
     let items = c.args.inbound.items in
-    let hop = c.args.turn in
+    let hop = c.args.hop in
     let kept : c.remove-turn.new.self.items ≡ take hop items =
     c.remove-turn.ensures.by_index.2 ∙ ap (λ (t : List g.row.S.Denot). take hop t ++ drop (hop + 1) t) c.in_ok-after.ensures.items ∙ front_kept items hop in
     ap (list_any turns) kept ∙ none_before turns items hop c.requires.turn
@@ -19,7 +19,7 @@ pub returns-clause-turn : goal.returns-clause-turn
 returns-clause-turn g c =
     let turns = λ (s : g.row.S.Denot). is_turn (g.S.Stage.meaning s).direction in
     let items = c.args.inbound.items in
-    let hop = c.args.turn in
+    let hop = c.args.hop in
     let turn = c.remove-turn.result in
     let here : turn ≡ get_or items hop turn =
     c.remove-turn.ensures.value ∙ ap (λ (t : List g.row.S.Denot). get_or t hop turn) c.in_ok-after.ensures.items ∙ get_or-take (hop + 1) items hop turn (omega arith) in
@@ -31,4 +31,4 @@ pub returns-clause-whole : goal.returns-clause-whole
 returns-clause-whole g c =
     let cut = c.in_ok-after.ensures in
     let removed = c.remove-turn.ensures in
-    split_whole c.args.inbound.items _ _ _ c.args.turn _ c.requires.within cut.items removed.by_index.2 removed.value cut.tail
+    split_whole c.args.inbound.items _ _ _ c.args.hop _ c.requires.within cut.items removed.by_index.2 removed.value cut.tail

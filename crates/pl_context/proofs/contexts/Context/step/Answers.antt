@@ -1,3 +1,4 @@
+use Rattle.std.proofs.lemmas.Result.{on_ok_weaker, on_err_weaker}
 use Rattle.std.proofs.Common.{◌++◌, ◌∷◌, [], List, length, sym, ap, subst, ◌∙◌, arith, length-append}
 use Rattle.pl_event.specs.declared.events.Event.{Event}
 use Rattle.pl_event.specs.declared.stages.Turned.{Turned}
@@ -7,7 +8,7 @@ use Rattle.pl_context.specs.Ports.{as_items, end_after}
 use Rattle.pl_context.specs.ContextViews.{ContextView, open_lanes}
 use Rattle.pl_context.specs.Contexts.{IsSmall}
 use Rattle.pl_context.proofs.Places.{places-up, places-down}
-use Rattle.pl_context.proofs.ContextLemmas.{all-made, runs-from, length-items, offers-made, on_err}
+use Rattle.pl_context.proofs.ContextLemmas.{all-made, runs-from, length-items, offers-made}
 use Rattle.pl_context.proofs.contexts.Context.step.Goals as goal
 
 pub put_made-requires-clause-place_up : goal.put_made-requires-clause-place_up
@@ -40,14 +41,16 @@ pub invariant_of-self : goal.invariant_of-self
 invariant_of-self g c =
     assumption (c.in_err-turned.ensures.up_kept ∙ c.self.invariant.up_empty, c.in_err-turned.ensures.down_kept ∙ c.self.invariant.down_empty, c.self.invariant)
 
-pub returns-in_err-put_made-clause-why : goal.returns-in_err-put_made-clause-why
-returns-in_err-put_made-clause-why g c =
-    let why = λ (xs : List Event) (h : g.S.Stage.stands_after c.self.inside.stage xs). offers-made (g.S.Stage.meaning c.self.inside.stage) xs c.args.event c.self.inside.up c.self.inside.down c.step.new.up.items c.step.new.down.items c.in_ok-turned.turned c.args.outputs.now.room
-    (all-made (c.in_ok-turned.ensures.up xs h) c.self.invariant.up_empty) (all-made (c.in_ok-turned.ensures.down xs h) c.self.invariant.down_empty) (c.in_ok-turned.ensures.turned xs h) c.in_err-put_made.ensures.none.why in
-    rw (← c.self.view_is) (on_err c.from_residual-in_err-put_made.result (λ unspent xs h. why xs h))
+pub returns-clause-why : goal.returns-clause-why
+returns-clause-why g c =
+    rw (← c.self.view_is)
+    (on_err_weaker c.put_made.result
+    (λ none unspent xs h. offers-made (g.S.Stage.meaning c.self.inside.stage) xs c.args.event c.self.inside.up c.self.inside.down c.step.new.up.items c.step.new.down.items c.in_ok-turned.turned c.args.outputs.now.room
+    (all-made (c.in_ok-turned.ensures.up xs h) c.self.invariant.up_empty) (all-made (c.in_ok-turned.ensures.down xs h) c.self.invariant.down_empty) (c.in_ok-turned.ensures.turned xs h) none.why) c.put_made.ensures.none)
 
 pub returns-clause-runs : goal.returns-clause-runs
 returns-clause-runs g c =
     rw (← c.self.view_is)
-    (runs-from g.S.Stage.meaning g.S.Stage.stands_after _ c.args.event c.args.outputs.now c.put_made.new.outputs c.step.new.self c.put_made.new.up c.put_made.new.down c.step.new.up.items c.step.new.down.items c.in_ok-turned.turned
-    c.in_ok-turned.ensures.stands c.step.ensures.same_meaning (λ xs h. all-made (c.in_ok-turned.ensures.up xs h) c.self.invariant.up_empty) (λ xs h. all-made (c.in_ok-turned.ensures.down xs h) c.self.invariant.down_empty) c.in_ok-turned.ensures.turned c.in_ok-put_made.ensures.puts.up c.in_ok-put_made.ensures.puts.down c.in_ok-put_made.ensures.puts.out)
+    (on_ok_weaker c.put_made.result
+    (λ puts. runs-from g.S.Stage.meaning g.S.Stage.stands_after _ c.args.event c.args.outputs.now c.put_made.new.outputs c.step.new.self c.put_made.new.up c.put_made.new.down c.step.new.up.items c.step.new.down.items c.in_ok-turned.turned
+    c.in_ok-turned.ensures.stands c.step.ensures.same_meaning (λ xs h. all-made (c.in_ok-turned.ensures.up xs h) c.self.invariant.up_empty) (λ xs h. all-made (c.in_ok-turned.ensures.down xs h) c.self.invariant.down_empty) c.in_ok-turned.ensures.turned puts.up puts.down puts.out) c.put_made.ensures.puts)

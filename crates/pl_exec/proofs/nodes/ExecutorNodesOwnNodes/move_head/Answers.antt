@@ -18,7 +18,7 @@ use Rattle.pl_exec.proofs.nodes.ExecutorNodesOwnNodes.move_head.Goals.{After-ind
 pub index_mut-requires : goal.index_mut-requires
 index_mut-requires g c =
     let n = c.args.self.now in
-    let within = own-within n.parts.items n.own.items c.args.at c.index-position.result.now c.requires.there c.index-position.ensures c.requires.stands.own in
+    let within = own-within n.parts.items n.heads.items c.args.at c.index-position.result.now c.requires.there c.index-position.ensures c.requires.stands.own in
     omega (arith, within, n.parts.ok.0)
 
 -- the part at the position, and its channel
@@ -27,8 +27,8 @@ own g c =
     let n = c.args.self.now in
     let k = c.index-position.result.now in
     let order = c.requires.stands.in_order in
-    let inside = own-within n.parts.items n.own.items c.args.at k c.requires.there c.index-position.ensures c.requires.stands.own in
-    let part = own-part n.parts.items n.own.items c.args.at k c.requires.there c.index-position.ensures c.requires.stands.own c.index_mut.result.now c.index_mut.ensures.value in
+    let inside = own-within n.parts.items n.heads.items c.args.at k c.requires.there c.index-position.ensures c.requires.stands.own in
+    let part = own-part n.parts.items n.heads.items c.args.at k c.requires.there c.index-position.ensures c.requires.stands.own c.index_mut.result.now c.index_mut.ensures.value in
     record { order = order; within = omega (arith, inside, order.parts); at = part; there = part-at g.W.Planned.plan n order k c.index_mut.result.now part }
 
 pub move_head-has_moved-requires-clause-holds : goal.move_head-has_moved-requires-clause-holds

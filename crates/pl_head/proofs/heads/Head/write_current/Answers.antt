@@ -9,7 +9,7 @@ use Rattle.pl_head.specs.Transports.{FailsNext}
 use Rattle.pl_head.specs.OutboundStand.{buffer_view}
 use Rattle.pl_head.proofs.HeadAfter.{unfailed, fail_after}
 use Rattle.pl_head.proofs.Rising.{goes_on-same}
-use Rattle.pl_head.proofs.Accepting.{wrote_sizes, accepted_some, all_left, idles, accepts, waits_for}
+use Rattle.pl_head.proofs.Accepting.{wrote_sizes, accepted_some, all_left, idle_after, idles, accepts, waits_for}
 use Rattle.pl_head.proofs.heads.Head.write_current.Goals as goal
 use Rattle.pl_head.proofs.heads.Head.write_current.Goals.{In-Some}
 
@@ -21,7 +21,7 @@ first_is (Some cause) e = cc e
 pub returns-in-None : goal.returns-in-None
 returns-in-None g c =
     rw (← c.self.view_is)
-    (idles g.T.Transport.state g.T.Transport.may_refuse _ _ (search rules) (λ ys sizes t. all_left _ (out ys) (c.in-None.ensures.none _ ys _ sizes t)))
+    (idles g.T.Transport.state g.T.Transport.may_refuse _ _ (search rules) (λ ys zs sizes s. idle_after c.self.inside.failure _ _ ys zs _ sizes s (λ t. all_left _ (out ys) (c.in-None.ensures.none _ ys _ sizes t))))
 
 -- it has not failed before
 none : (g : _) (c : In-Some g) → is_some c.self.inside.failure ≡ false

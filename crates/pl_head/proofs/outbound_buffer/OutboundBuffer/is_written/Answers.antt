@@ -1,14 +1,12 @@
-use Rattle.std.proofs.Common.{◌++◌, [], ◌∙◌, refl, append-nil}
-use Rattle.pl_head.specs.Writes.{out}
-use Rattle.pl_head.proofs.HeadSteps.{none_waits, some_waits}
+use Rattle.pl_head.specs.Writes.{flushed_writes, unflushed_writes, out}
+use Rattle.pl_head.proofs.Buffering.{nothing_left, some_left}
+use Rattle.pl_head.proofs.HeadSteps.{flushed_waits}
 use Rattle.pl_head.proofs.outbound_buffer.OutboundBuffer.is_written.Goals as goal
 
-pub returns-in-None : goal.returns-in-None
-returns-in-None c = λ accepted ys ended sizes s.
-    (none_waits accepted [] (out ys) refl (append-nil accepted ∙ c.in-None.ensures.none accepted ys ended sizes s)).1
-
-pub returns-in-Some : goal.returns-in-Some
-returns-in-Some c = λ accepted ys ended sizes s.
-    let offers = c.in-Some.ensures.offers accepted ys ended sizes s in
-    let bytes = c.in-Some.field-0.now in
-    (some_waits bytes offers.2.0 (bytes ++ offers.2.0) accepted (out ys) refl offers.0 offers.2.1).1
+pub returns-clause-stands : goal.returns-clause-stands
+returns-clause-stands c = λ accepted ys ended sizes s.
+    let b = c.args.self.now in
+    flushed_waits b.flushed accepted s.left (out ys)
+    (nothing_left b.entries.items b.offset b.flushed b.outcomes.items (flushed_writes ys) (unflushed_writes ys) s.left ended s.messages)
+    (λ some. some_left b.entries.items b.offset b.flushed b.outcomes.items (flushed_writes ys) (unflushed_writes ys) s.left ended s.messages some (s.at_rest some))
+    s.output

@@ -4,10 +4,9 @@ use Rattle.std.proofs.lemmas.Option.{slice_get_read}
 use Rattle.pl_event.specs.declared.envelopes.Envelope.{Envelope}
 use Rattle.pl_context.specs.WaitingViews.{Entry, Holds}
 use Rattle.pl_words.specs.Admissions.{AdmittedView}
-use Rattle.pl_outbox.specs.declared.outboxes.Offered.TheVariants.{Handed, Full, Nothing}
-use Rattle.pl_outbox.specs.OutboxViews.{OutboxView, OutboxesView, IsOutboxes, sends_for, was_tried, Offers, Stays}
+use Rattle.pl_outbox.specs.OutboxViews.{OutboxView, OutboxesView, IsOutboxes, waits_for, sends_for, was_tried, Sends, KeepsAll, Stays}
 use Rattle.std.proofs.lemmas.List.{length-set}
-use Rattle.pl_outbox.proofs.OfferSteps.{set-back, nothing-offers, nothing-stays, may-offer, handed-hold, handed-offers, handed-stays, full-hold, full-offers, full-stays}
+use Rattle.pl_outbox.proofs.OfferSteps.{set-back, nothing-waits, may-offer, handed-hold, handed-sends, handed-stays, full-hold, full-keeps, full-stays}
 use Rattle.pl_outbox.proofs.outboxes.Outboxes.offer.Goals as goal
 
 -- ---- its queue is found full: what waits stays as it is
@@ -19,15 +18,15 @@ invariant_of-self g c =
       c.add.ensures.count ∙ c.self.invariant.1,
     )
 
-pub returns-then-is_full-clause-offers : goal.returns-then-is_full-clause-offers
-returns-then-is_full-clause-offers g c =
+pub returns-then-is_full-clause-keeps : goal.returns-then-is_full-clause-keeps
+returns-then-is_full-clause-keeps g c = λ _.
     let os = c.self.inside.outboxes.items in
     let w = c.self.inside.waiting in
-    subst (λ (v : OutboxesView). Offers v c.args.way Full (record { outboxes = os; waiting = w; tried = c.add.new.self.tried; ways = c.self.inside.ways.items })) (c.self.view_is ∙ c.is_full.ensures.same)
-    (full-offers g.W.Named.world os w c.self.inside.tries.tried c.self.inside.ways.items c.self.invariant.0 c.args.way w c.add.new.self.tried (λ entries holds. holds) refl (λ y. refl) refl)
+    subst (λ (v : OutboxesView). KeepsAll v (record { outboxes = os; waiting = w; tried = c.add.new.self.tried; ways = c.self.inside.ways.items })) (c.self.view_is ∙ c.is_full.ensures.same)
+    (full-keeps g.W.Named.world os w c.self.inside.tries.tried c.self.inside.ways.items c.self.invariant.0 c.args.way w c.add.new.self.tried (λ entries holds. holds) refl (λ y. refl) refl)
 
 pub returns-then-is_full-clause-full : goal.returns-then-is_full-clause-full
-returns-then-is_full-clause-full g c = c.is_full.ensures.full (cc)
+returns-then-is_full-clause-full g c = λ _. c.is_full.ensures.full (cc)
 
 pub returns-then-is_full-clause-stays : goal.returns-then-is_full-clause-stays
 returns-then-is_full-clause-stays g c =
@@ -40,20 +39,12 @@ pub returns-then-is_full-clause-tried : goal.returns-then-is_full-clause-tried
 returns-then-is_full-clause-tried g c = λ y.
     c.add.ensures.tried y ∙ ap (λ (v : OutboxesView). (y == c.args.way) || was_tried v y) (c.self.view_is ∙ c.is_full.ensures.same)
 
--- ---- nothing waits
+-- ---- something waits
 
-pub returns-in_default-clause-offers : goal.returns-in_default-clause-offers
-returns-in_default-clause-offers g c =
-    subst (λ (v : OutboxesView). Offers v c.args.way Nothing (record { outboxes = c.self.inside.outboxes.items; waiting = c.take.new.self; tried = c.self.inside.tries.tried; ways = c.self.inside.ways.items })) (c.self.view_is ∙ c.is_full.ensures.same)
-    (nothing-offers g.W.Named.world c.self.inside.outboxes.items c.self.inside.waiting c.self.inside.tries.tried c.self.inside.ways.items c.self.invariant.0 c.args.way c.take.new.self (c.in_default.ensures.first c.self.invariant.0.entries c.self.invariant.0.holds))
-
-pub returns-in_default-clause-stays : goal.returns-in_default-clause-stays
-returns-in_default-clause-stays g c =
-    subst (λ (v : OutboxesView). Stays v (record { outboxes = c.self.inside.outboxes.items; waiting = c.take.new.self; tried = c.self.inside.tries.tried; ways = c.self.inside.ways.items })) (c.self.view_is ∙ c.is_full.ensures.same)
-    (nothing-stays g.W.Named.world c.self.inside.outboxes.items c.self.inside.waiting c.self.inside.tries.tried c.self.inside.ways.items c.self.invariant.0 c.args.way c.take.new.self (c.in_default.ensures.first c.self.invariant.0.entries c.self.invariant.0.holds))
-
-pub returns-in_default-clause-tried : goal.returns-in_default-clause-tried
-returns-in_default-clause-tried g c = λ y. ap (λ (v : OutboxesView). was_tried v y) (returns-in_default-clause-offers g c).0
+pub unreachable-requires : goal.unreachable-requires
+unreachable-requires g c =
+    c.requires.waits (ap (λ (v : OutboxesView). waits_for v c.args.way) (sym (c.self.view_is ∙ c.is_full.ensures.same))
+    ∙ nothing-waits g.W.Named.world c.self.inside.outboxes.items c.self.inside.waiting c.self.inside.tries.tried c.self.inside.ways.items c.self.invariant.0 c.args.way c.take.new.self (c.in_default.ensures.first c.self.invariant.0.entries c.self.invariant.0.holds))
 
 -- ---- the first is offered
 
@@ -86,12 +77,12 @@ invariant_of-self-in-Ok g c =
       c.self.invariant.1 ∙ sym (length-set os c.args.way c.offer.new.self),
     )
 
-pub returns-in-Ok-clause-offers : goal.returns-in-Ok-clause-offers
-returns-in-Ok-clause-offers g c =
+pub returns-in-Ok-clause-sends : goal.returns-in-Ok-clause-sends
+returns-in-Ok-clause-sends g c = λ _.
     let os = c.self.inside.outboxes.items in
     let at = slice_get_read os (length os) c.args.way c.index_mut.result.now refl (subst (λ (v : OutboxesView). c.args.way < length v.outboxes) (sym (c.self.view_is ∙ c.is_full.ensures.same)) c.requires.there) c.index_mut.ensures.value in
-    subst (λ (v : OutboxesView). Offers v c.args.way Handed (record { outboxes = set os c.args.way c.offer.new.self; waiting = c.take.new.self; tried = c.self.inside.tries.tried; ways = c.self.inside.ways.items })) (c.self.view_is ∙ c.is_full.ensures.same)
-    (handed-offers g.W.Named.world os c.self.inside.waiting c.self.inside.tries.tried c.self.inside.ways.items c.self.invariant.0 c.args.way c.in-Some.envelope c.in-Some.admitted c.take.new.self (c.in-Some.ensures.first c.self.invariant.0.entries c.self.invariant.0.holds)
+    subst (λ (v : OutboxesView). Sends v c.args.way (record { outboxes = set os c.args.way c.offer.new.self; waiting = c.take.new.self; tried = c.self.inside.tries.tried; ways = c.self.inside.ways.items })) (c.self.view_is ∙ c.is_full.ensures.same)
+    (handed-sends g.W.Named.world os c.self.inside.waiting c.self.inside.tries.tried c.self.inside.ways.items c.self.invariant.0 c.args.way c.in-Some.envelope c.in-Some.admitted c.take.new.self (c.in-Some.ensures.first c.self.invariant.0.entries c.self.invariant.0.holds)
     c.index_mut.result.now c.offer.new.self at c.in-Ok.ensures c.take.ensures.added c.in-Some.ensures.first)
 
 pub returns-in-Ok-clause-stays : goal.returns-in-Ok-clause-stays
@@ -140,16 +131,16 @@ invariant_of-self-in-Err g c =
       c.add-in-Err.ensures.count ∙ c.self.invariant.1 ∙ ap (λ (bs : List OutboxView). length bs) (same-outboxes g c),
     )
 
-pub returns-in-Err-clause-offers : goal.returns-in-Err-clause-offers
-returns-in-Err-clause-offers g c =
+pub returns-in-Err-clause-keeps : goal.returns-in-Err-clause-keeps
+returns-in-Err-clause-keeps g c = λ _.
     let os = c.self.inside.outboxes.items in
     let takes = c.in-Some.ensures.first c.self.invariant.0.entries c.self.invariant.0.holds in
-    subst (λ (z : OutboxesView × List OutboxView). Offers z.0 c.args.way Full (record { outboxes = z.1; waiting = c.put_back.new.self; tried = c.add-in-Err.new.self.tried; ways = c.self.inside.ways.items })) (λ i. ((c.self.view_is ∙ c.is_full.ensures.same) i, same-outboxes g c i))
-    (full-offers g.W.Named.world os c.self.inside.waiting c.self.inside.tries.tried c.self.inside.ways.items c.self.invariant.0 c.args.way c.put_back.new.self c.add-in-Err.new.self.tried (held g c)
+    subst (λ (z : OutboxesView × List OutboxView). KeepsAll z.0 (record { outboxes = z.1; waiting = c.put_back.new.self; tried = c.add-in-Err.new.self.tried; ways = c.self.inside.ways.items })) (λ i. ((c.self.view_is ∙ c.is_full.ensures.same) i, same-outboxes g c i))
+    (full-keeps g.W.Named.world os c.self.inside.waiting c.self.inside.tries.tried c.self.inside.ways.items c.self.invariant.0 c.args.way c.put_back.new.self c.add-in-Err.new.self.tried (held g c)
     (c.put_back.ensures.added ∙ c.take.ensures.added) (λ y. c.put_back.ensures.stopped y ∙ takes.stopped y) (c.put_back.ensures.targets ∙ takes.targets))
 
 pub returns-in-Err-clause-full : goal.returns-in-Err-clause-full
-returns-in-Err-clause-full g c =
+returns-in-Err-clause-full g c = λ _.
     let os = c.self.inside.outboxes.items in
     let at = slice_get_read os (length os) c.args.way c.index_mut.result.now refl (subst (λ (v : OutboxesView). c.args.way < length v.outboxes) (sym (c.self.view_is ∙ c.is_full.ensures.same)) c.requires.there) c.index_mut.ensures.value in (
       c.index_mut.result.now.sends,

@@ -1,7 +1,7 @@
 use Rattle.std.proofs.Common.{not, rules, ap, sym, ◌∙◌, subst}
 use Rattle.std.proofs.lemmas.Bool.{both_ways}
 use denote.Enum.Bare.{sameb, same_true}
-use Rattle.pl_flow.specs.declared.moves.HeadMove.{HeadMove}
+use Rattle.pl_flow.specs.declared.head_moves.HeadMove.{HeadMove}
 use Rattle.pl_head.specs.contracts.heads.ReadStep.{the_type}
 use Rattle.pl_head.specs.declared.heads.ReadStep.TheVariants as reading
 use Rattle.pl_part.specs.Parts.{PartMoves}

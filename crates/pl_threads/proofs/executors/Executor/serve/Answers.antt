@@ -1,6 +1,6 @@
 use Rattle.std.proofs.Common.{◌≡◌, ℕ, Bool, true, false, refl, ap, arith, sym, subst}
 use Rattle.std.proofs.lemmas.Bool.{both_ways}
-use Rattle.pl_flow.specs.declared.moves.HeadMove.TheVariants.{Out}
+use Rattle.pl_flow.specs.declared.head_moves.HeadMove.TheVariants.{Out}
 use Rattle.pl_threads.specs.Running.{ExecutorView}
 use Rattle.pl_threads.specs.Serving.{Served, ReadsAtMostOnce, WritesAtMostOnce, ServesBy}
 use Rattle.pl_threads.specs.Turning.{MovesHead, OnlyServes, ServesOne}

@@ -1,5 +1,5 @@
 use Rattle.std.proofs.Common.{◌≡◌, ◌+◌, ◌<◌, ◌≤◌, ℕ, false, true}
-use Rattle.pl_flow.specs.declared.moves.HeadMove.{HeadMove}
+use Rattle.pl_flow.specs.declared.head_moves.HeadMove.{HeadMove}
 use Rattle.pl_threads.specs.Serving.{is_asked}
 use Rattle.pl_threads.proofs.executors.Executor.serve_first.Given as goal
 

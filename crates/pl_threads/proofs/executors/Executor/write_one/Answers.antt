@@ -4,9 +4,6 @@ use Rattle.pl_threads.specs.Turning.{ServesOne}
 use Rattle.pl_threads.proofs.TurnLemmas.{serves-none, serves-write}
 use Rattle.pl_threads.proofs.executors.Executor.write_one.Goals as goal
 
-pub returns-then-not-ran-clause-moves : goal.returns-then-not-ran-clause-moves
-returns-then-not-ran-clause-moves g c = serves-none g.N.OwnNodes.view_of g.N.OwnNodes.acts c.args.self.now
-
 pub returns-in_default-clause-moves : goal.returns-in_default-clause-moves
 returns-in_default-clause-moves g c = serves-none g.N.OwnNodes.view_of g.N.OwnNodes.acts c.args.self.now
 

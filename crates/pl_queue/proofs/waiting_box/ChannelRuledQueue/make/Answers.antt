@@ -1,5 +1,0 @@
-use Rattle.pl_queue.proofs.Steps.{begins}
-use Rattle.pl_queue.proofs.waiting_box.ChannelRuledQueue.make.Goals as goal
-
-pub bounded_with-requires-clause-rule : goal.bounded_with-requires-clause-rule
-bounded_with-requires-clause-rule g c = begins g.W.Named.world

@@ -1,5 +1,0 @@
-use Rattle.pl_queue.proofs.Steps.{merges}
-use Rattle.pl_queue.proofs.waiting_box.ChannelRuledQueue.unite.Goals as goal
-
-pub absorb-requires-clause-rule : goal.absorb-requires-clause-rule
-absorb-requires-clause-rule g c = merges g.W.Named.world _ _ _ _

@@ -1,6 +1,0 @@
-use Rattle.std.proofs.Common.{◌≡◌, ◌+◌, take}
-use Rattle.pl_text.specs.MovesTexts.{moves_said}
-use Rattle.pl_text.proofs.moves_text.copies.left_of.Given as goal
-
-abbrev pub invariant-loop-term : goal.invariant-loop-term
-invariant-loop-term l = l.left + moves_said (take l.term-index l.terms) ≡ l.limit
